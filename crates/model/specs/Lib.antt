@@ -1,0 +1,20 @@
+-- Document 01 as definitions, in its order: what a reader has to believe.
+pub mod Places
+pub mod Table
+pub mod Nodes
+pub mod Rows
+pub mod Regions
+pub mod Settle
+pub mod Sound
+pub mod Logs
+pub mod Answers
+pub mod New
+pub mod Count
+pub mod Fetch
+pub mod Open
+pub mod Close
+pub mod Release
+pub mod Update
+pub mod Replay
+pub mod Calls
+pub mod SmallCapture
