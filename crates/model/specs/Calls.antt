@@ -12,7 +12,7 @@ use Rattle.model.specs.declared.ChangeAnswer.{ChangeAnswer}
 use Rattle.model.specs.declared.UpdateAnswer.{UpdateAnswer}
 use Rattle.model.specs.Logs.{logOf}
 use Rattle.model.specs.Answers.{noRow}
-use Rattle.model.specs.New.{answerNew}
+use Rattle.model.specs.New.{zeros, answerNew}
 use Rattle.model.specs.Count.{answerCount}
 use Rattle.model.specs.Fetch.{answerFetch}
 use Rattle.model.specs.Open.{answerOpen}
@@ -61,6 +61,16 @@ call m (opening t r) = ofChange (answerOpen t m r)
 call m (close r) = ofChange (answerClose m r)
 call m (release r) = ofModel (answerRelease m r)
 
+-- the model that a call starts from: a new one comes of nothing
+abbrev pub before : Model → Call → Model
+before m (new t) = zeros
+before m (update t) = m
+before m count = m
+before m (fetch t r) = m
+before m (opening t r) = m
+before m (close r) = m
+before m (release r) = m
+
 -- each call is made on the model that the one before it gave
 unfoldable pub answers : Model → List Call → List Seen
 answers m [] = []
@@ -74,4 +84,4 @@ after m (c ∷ cs) = after (call m c .model) cs
 -- each call's log, replayed on the listing before the call, gives the listing after it
 unfoldable pub allReplay : Model → List Call → Bool
 allReplay m [] = true
-allReplay m (c ∷ cs) = let a = call m c in replays m (a .log) (a .model) && allReplay (a .model) cs
+allReplay m (c ∷ cs) = let a = call m c in replays (before m c) (a .log) (a .model) && allReplay (a .model) cs

@@ -3,12 +3,13 @@ use Prim.Native.Nat.{ℕ, zero, suc, _+_, _-_, _*_, _≤_, _<_, _%_}
 use native.Mathlib.Nat.{add-zero}
 use native.Mathlib.Numerals.{add-one}
 use native.Mathlib.Omega.{arith}
-use mathlib.Core.Path.{_≡_, refl, _∙_}
+use mathlib.Core.Path.{_≡_, refl, ap, sym, _∙_}
 use mathlib.Core.Logic.{_⊎_, inl, inr}
 use mathlib.Core.Bool.{Bool, true, false, cond, _&&_, and-false}
 use mathlib.Core.List.{List, []}
 use lib.Dec.{eqb}
-use lib.ListN.{length, getD, take, drop}
+use lib.ListN.{length, getD, take, drop, length-drop}
+use lib.Seq.{length-take-le}
 use borrow.Author.Tests.{eq-eqb, ne-eqb, lt-ltb}
 use Rattle.model.specs.Table.{word, entries, readable, firstEntry, childEntry, entryWords, childWords}
 
@@ -76,3 +77,14 @@ readable-empty t z = rw z
 pub readable-some : (t : List ℕ) → (length t ≡ 0 → ⊥) → readable t ≡ eqb (length t % 5) 0
 unfolding readable
 readable-some t some = rw (lt-ltb 0 (length t) (omega arith))
+
+-- a child has five words or none
+pub words-whole : (t : List ℕ) (p i : ℕ) → (childWords t p i ≡ []) ⊎ (length (childWords t p i) ≡ 5)
+words-whole t p i = by (childEntry t p i) refl
+  where
+    by : (e : ℕ) → e ≡ childEntry t p i → (childWords t p i ≡ []) ⊎ (length (childWords t p i) ≡ 5)
+    by zero is = inl (words-none t p i (sym is))
+    by (suc e) is =
+        let some : suc e ≡ 0 → ⊥ = λ z. omega arith in
+        let h = words-inside t p i (suc e) is some in
+        inr (ap length (words-some t p i (suc e) is some) ∙ length-take-le 5 (drop (5 * suc e) t) (rw length-drop (omega arith)))

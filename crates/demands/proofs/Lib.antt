@@ -1,0 +1,3 @@
+-- What the user asked for.
+pub mod Outcomes
+pub mod Kept

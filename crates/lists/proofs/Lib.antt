@@ -1,0 +1,5 @@
+pub mod Bools
+pub mod Numbers
+pub mod Filters
+pub mod Edits
+pub mod Pigeonhole

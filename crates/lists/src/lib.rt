@@ -1,0 +1,1 @@
+// Lists and sums of any kind: definitions in specs/, laws in proofs/.

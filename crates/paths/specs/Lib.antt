@@ -1,0 +1,3 @@
+pub mod Order
+pub mod Shapes
+pub mod Listings

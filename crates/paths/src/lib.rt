@@ -1,0 +1,1 @@
+// Paths, their order, and the trees that they make: definitions in specs/, laws in proofs/.

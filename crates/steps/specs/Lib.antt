@@ -1,0 +1,4 @@
+-- The notions that the laws of the steps are about.
+pub mod Changes
+pub mod Settled
+pub mod Telling

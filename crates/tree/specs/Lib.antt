@@ -1,0 +1,3 @@
+pub mod WellFormed
+pub mod Paths
+pub mod Pairs
