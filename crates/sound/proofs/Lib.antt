@@ -1,0 +1,9 @@
+pub mod Formed
+pub mod Places
+pub mod Twins
+pub mod Children
+pub mod Totals
+pub mod Runs
+pub mod Walk
+pub mod Course
+pub mod Whole

@@ -1,0 +1,7 @@
+-- Laws that the operations' proofs apply.
+pub mod SoundRows
+pub mod InPlace
+pub mod AnswerNew
+pub mod AnswerCount
+pub mod AnswerRelease
+pub mod AnswerFetch

@@ -1,0 +1,2 @@
+-- What private functions ask of their callers.
+pub mod Following

@@ -1,0 +1,24 @@
+// Answers that change nothing.
+use crate::blank::no_row;
+use model::FetchAnswer;
+use model::Model;
+use model::ModelAnswer;
+ghost use mathlib.Core.Path.{_≡_};
+ghost use Rattle.model.specs.Answers.{justModel, noFetch};
+
+pub fn just_model(refusal: u64, m: Model) -> ModelAnswer
+    ensures { λ r. ⌜ r ≡ justModel refusal m ⌝ }
+{
+    ModelAnswer { refusal, model: m }
+}
+
+pub fn no_fetch(refusal: u64, m: Model) -> FetchAnswer
+    ensures { λ r. ⌜ r ≡ noFetch refusal m ⌝ }
+{
+    let row = no_row();
+    FetchAnswer {
+        refusal,
+        model: m,
+        row,
+    }
+}

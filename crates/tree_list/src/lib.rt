@@ -1,0 +1,14 @@
+// The tree list model's operations. Each is public, asks nothing of its caller, and answers by one
+// definition of model's specs/; what it cannot serve it refuses with document 01's number.
+mod answers;
+mod blank;
+mod counting;
+mod fetching;
+mod releasing;
+mod rows;
+mod starting;
+
+pub use counting::count;
+pub use fetching::fetch;
+pub use releasing::release;
+pub use starting::new;
