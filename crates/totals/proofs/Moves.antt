@@ -1,7 +1,7 @@
 -- Totals moved up the chain: a step of it, and which nodes it changes.
 use Prim.Native.Nat.{ℕ, zero, suc, _+_, _-_, _^_, _≤_, _<_}
 use native.Mathlib.Omega.{arith}
-use mathlib.Core.Path.{_≡_, refl, ap, _∙_}
+use mathlib.Core.Path.{_≡_, refl, sym, ap, _∙_}
 use mathlib.Core.Bool.{Bool, true, false, true≢false, false≢true}
 use mathlib.Core.List.{List}
 use lib.ListN.{length, set, length-set}
@@ -13,7 +13,7 @@ use Rattle.model.specs.Nodes.{noNode, nodeAt, withTotal}
 use Rattle.model.specs.Sound.{reaches}
 use native.Mathlib.Decide.{ℕ-discrete}
 use Rattle.steps.specs.Settled.{withNodes}
-use Rattle.totals.specs.Totals.{moved, Movable, movedAbove, AllMovable}
+use Rattle.totals.specs.Totals.{moved, Movable, movedAbove, Above, AllMovable}
 use Rattle.paths.proofs.Order.{length-child}
 use Rattle.tree.proofs.Find.{to-up, above-used, reach-up, reach-never, reach-deep}
 use Rattle.tree.proofs.Over.{over-up, up≢}
@@ -41,6 +41,83 @@ moved-fewer false rows total e = refl
 abbrev pub totalMoved : Bool → ℕ → Node → Node
 totalMoved more rows n = withTotal (moved more rows (n .total)) n
 
+module _ (ns : List Node) (w : WellFormed ns) where
+  -- a node above a node's parent is above the node, and the parent is not above itself
+  above-up : (k j : ℕ) → Above ns j (up ns (suc k)) → Above ns j (suc k)
+  above-up k j a = go (up ns (suc k)) refl a
+    where
+      go : (p : ℕ) → up ns (suc k) ≡ p → Above ns j p → Over ns j (up ns (suc k))
+      go zero e a = absurd a
+      go (suc p) e a = rw e (step a)
+
+  not-above : (k : ℕ) → Used ns k → Above ns k k → ⊥
+  not-above zero u a = a
+  not-above (suc k) u a = over-up ns w k u a
+
+  parent-above : (k : ℕ) → Above ns (up ns (suc k)) (suc k)
+  parent-above k = here refl
+
+  -- the nodes above k have their totals moved, once each, and no other node is changed
+  module _ (more : Bool) (rows : ℕ) where
+    record Changed (xs : List Node) (k : ℕ) (ys : List Node) : Type 0 where
+      moved-at : (j : ℕ) → Above ns j k → nodeAt ys j ≡ totalMoved more rows (nodeAt xs j)
+      kept-at : (j : ℕ) → (Above ns j k → ⊥) → nodeAt ys j ≡ nodeAt xs j
+      long : length ys ≡ length xs
+
+    -- the parent's total is moved, and then those above the parent
+    module _ (k : ℕ) (xs : List Node) (u : Used ns (suc k)) (e : (j : ℕ) → nodeAt xs j .parent ≡ up ns j) (l : length xs ≡ 256) where
+      abbrev top : ℕ
+      top = up ns (suc k)
+
+      abbrev once : List Node
+      once = set xs top (totalMoved more rows (nodeAt xs top))
+
+      parent-used : Used ns top
+      parent-used = above-used ns w k u
+
+      here-moved : nodeAt once top ≡ totalMoved more rows (nodeAt xs top)
+      here-moved = getD-set-same xs top (totalMoved more rows (nodeAt xs top)) noNode (rw l (used-small ns w top parent-used))
+
+      same-up : (j : ℕ) → Dec (j ≡ top) → nodeAt once j .parent ≡ up ns j
+      same-up j (yes z) = ap (λ (i : ℕ). nodeAt once i .parent) z ∙ ap (λ (n : Node). n .parent) here-moved ∙ e top ∙ sym (ap (up ns) z)
+      same-up j (no n) = ap (λ (x : Node). x .parent) (getD-set-other xs top j (totalMoved more rows (nodeAt xs top)) noNode n) ∙ e j
+
+      changed-step : (zs : List Node) → Changed once top zs → Changed xs (suc k) zs
+      changed-step zs C = record {
+        moved-at = λ j a. by-over j a;
+        kept-at = λ j n. C .kept-at j (λ a. n (above-up k j a)) ∙ getD-set-other xs top j (totalMoved more rows (nodeAt xs top)) noNode (λ z. n (here (sym z)));
+        long = C .long ∙ length-set xs top (totalMoved more rows (nodeAt xs top));
+      }
+        where
+          further : (j : ℕ) → Above ns j top → nodeAt zs j ≡ totalMoved more rows (nodeAt xs j)
+          further j a = C .moved-at j a ∙ ap (totalMoved more rows) (getD-set-other xs top j (totalMoved more rows (nodeAt xs top)) noNode (λ z. not-above top parent-used (rw z at a)))
+
+          by-over : (j : ℕ) → Over ns j top → nodeAt zs j ≡ totalMoved more rows (nodeAt xs j)
+          by-over j a = go top refl a
+            where
+              go : (q : ℕ) → top ≡ q → Over ns j q → nodeAt zs j ≡ totalMoved more rows (nodeAt xs j)
+              go q d (here z) = let i : top ≡ j = d ∙ z in rw i at (C .kept-at top (not-above top parent-used) ∙ here-moved)
+              go (suc q) d (step b) = further j (rw d b)
+
+    changed-from : (f k : ℕ) (xs : List Node) → reaches ns f k ≡ true → Used ns k → ((j : ℕ) → nodeAt xs j .parent ≡ up ns j) → length xs ≡ 256 → Changed xs k (movedAbove more rows f xs k)
+    unfolding movedAbove
+    changed-from zero zero xs r u e l = record { moved-at = λ j a. absurd a; kept-at = λ j n. refl; long = refl }
+    changed-from (suc f) zero xs r u e l = record { moved-at = λ j a. absurd a; kept-at = λ j n. refl; long = refl }
+    changed-from zero (suc k) xs r u e l = absurd (reach-never ns k r)
+    changed-from (suc f) (suc k) xs r u e l =
+        rw (e (suc k))
+        (changed-step k xs u e l (movedAbove more rows f (once k xs u e l) (up ns (suc k)))
+        (changed-from f (up ns (suc k)) (once k xs u e l) (reach-up ns f k r) (above-used ns w k u) (λ j. same-up k xs u e l j (ℕ-discrete j (up ns (suc k)))) (length-set xs (up ns (suc k)) (totalMoved more rows (nodeAt xs (up ns (suc k)))) ∙ l)))
+
+  pub moved-above : (more : Bool) (rows k : ℕ) → Used ns k → (j : ℕ) → Above ns j k → nodeAt (movedAbove more rows depth ns k) j ≡ totalMoved more rows (nodeAt ns j)
+  moved-above more rows k u j a = changed-from more rows depth k ns (reach-deep ns w k u) u (λ i. refl) (w .size) .moved-at j a
+
+  pub kept-else : (more : Bool) (rows k : ℕ) → Used ns k → (j : ℕ) → (Above ns j k → ⊥) → nodeAt (movedAbove more rows depth ns k) j ≡ nodeAt ns j
+  kept-else more rows k u j n = changed-from more rows depth k ns (reach-deep ns w k u) u (λ i. refl) (w .size) .kept-at j n
+
+  pub moved-long : (more : Bool) (rows k : ℕ) → Used ns k → length (movedAbove more rows depth ns k) ≡ length ns
+  moved-long more rows k u = changed-from more rows depth k ns (reach-deep ns w k u) u (λ i. refl) (w .size) .long
+
 pub record Climbing (more : Bool) (rows : ℕ) (m : Model) (node : ℕ) (q : Model) (k : ℕ) : Type 0 where
   pub fuel : ℕ
   pub is : q ≡ withNodes m (q .nodes)
@@ -48,9 +125,8 @@ pub record Climbing (more : Bool) (rows : ℕ) (m : Model) (node : ℕ) (q : Mod
   pub used : Used (m .nodes) k
   pub reach : reaches (m .nodes) fuel k ≡ true
   pub parents : (j : ℕ) → nodeAt (q .nodes) j .parent ≡ nodeAt (m .nodes) j .parent
-  pub rest : (j : ℕ) → Over (m .nodes) j k → (j ≡ k → ⊥) → nodeAt (q .nodes) j ≡ nodeAt (m .nodes) j
-  pub over : (j : ℕ) → Over (m .nodes) j k → Over (m .nodes) j node
-  pub below : (j : ℕ) → Over (m .nodes) j k → (j ≡ k → ⊥) → (j ≡ node → ⊥)
+  pub rest : (j : ℕ) → Above (m .nodes) j k → nodeAt (q .nodes) j ≡ nodeAt (m .nodes) j
+  pub over : (j : ℕ) → Above (m .nodes) j k → Above (m .nodes) j node
   pub goal : movedAbove more rows fuel (q .nodes) k ≡ movedAbove more rows depth (m .nodes) node
 
 module _ (more : Bool) (rows : ℕ) (m : Model) (w : WellFormed (m .nodes)) (node : ℕ) where
@@ -62,13 +138,12 @@ module _ (more : Bool) (rows : ℕ) (m : Model) (w : WellFormed (m .nodes)) (nod
     used = u;
     reach = reach-deep (m .nodes) w node u;
     parents = λ j. refl;
-    rest = λ j o n. refl;
-    over = λ j o. o;
-    below = λ j o n. n;
+    rest = λ j a. refl;
+    over = λ j a. a;
     goal = refl;
   }
 
-  pub climb-end : (q : Model) → Climbing more rows m node q 0 → q ≡ withNodes m (movedAbove more rows depth (m .nodes) node)
+  climb-end : (q : Model) → Climbing more rows m node q 0 → q ≡ withNodes m (movedAbove more rows depth (m .nodes) node)
   unfolding movedAbove
   climb-end q C = C .is ∙ ap (withNodes m) (at (C .fuel) refl)
     where
@@ -77,35 +152,28 @@ module _ (more : Bool) (rows : ℕ) (m : Model) (w : WellFormed (m .nodes)) (nod
       at (suc f) e = rw e at (C .goal)
 
   module _ (q : Model) (k : ℕ) (C : Climbing more rows m node q (suc k)) where
-    pub climb-up : nodeAt (q .nodes) (suc k) .parent ≡ up (m .nodes) (suc k)
+    abbrev p : ℕ
+    p = up (m .nodes) (suc k)
+
+    climb-up : nodeAt (q .nodes) (suc k) .parent ≡ p
     climb-up = C .parents (suc k)
 
-    over-parent : Over (m .nodes) (up (m .nodes) (suc k)) (suc k)
-    over-parent = step (here refl)
+    v : Used (m .nodes) p
+    v = above-used (m .nodes) w k (C .used)
 
-    not-parent : up (m .nodes) (suc k) ≡ suc k → ⊥
-    not-parent e = up≢ (m .nodes) w k (C .used) e
+    climb-small : p < 256
+    climb-small = used-small (m .nodes) w p v
 
-    pub climb-small : up (m .nodes) (suc k) < 256
-    climb-small = used-small (m .nodes) w (up (m .nodes) (suc k)) (above-used (m .nodes) w k (C .used))
+    climb-movable : AllMovable more rows (m .nodes) node → Movable more rows (nodeAt (q .nodes) p .total)
+    climb-movable h = rw (C .rest p (here refl)) (h p (C .over p (here refl)))
 
-    pub climb-movable : AllMovable more rows (m .nodes) node → Movable more rows (nodeAt (q .nodes) (up (m .nodes) (suc k)) .total)
-    climb-movable h =
-        let p = up (m .nodes) (suc k) in
-        rw (C .rest p over-parent not-parent) (h p (C .over p over-parent) (C .below p over-parent not-parent))
+    climb-less : length (to (m .nodes) p) < length (to (m .nodes) (suc k))
+    climb-less = omega (arith, ap length (to-up (m .nodes) w k (C .used)), length-child (to (m .nodes) p) (ix (m .nodes) (suc k)))
 
-    pub climb-less : length (to (m .nodes) (up (m .nodes) (suc k))) < length (to (m .nodes) (suc k))
-    climb-less = omega (arith, ap length (to-up (m .nodes) w k (C .used)), length-child (to (m .nodes) (up (m .nodes) (suc k))) (ix (m .nodes) (suc k)))
-
-    pub climb-step :
-        let p = up (m .nodes) (suc k) in
-        Climbing more rows m node (withNodes q (set (q .nodes) p (totalMoved more rows (nodeAt (q .nodes) p)))) p
+    climb-step : Climbing more rows m node (withNodes q (set (q .nodes) p (totalMoved more rows (nodeAt (q .nodes) p)))) p
     unfolding movedAbove
     climb-step = by (C .fuel) refl
       where
-        p : ℕ
-        p = up (m .nodes) (suc k)
-
         new : List Node
         new = set (q .nodes) p (totalMoved more rows (nodeAt (q .nodes) p))
 
@@ -125,12 +193,13 @@ module _ (more : Bool) (rows : ℕ) (m : Model) (w : WellFormed (m .nodes)) (nod
           fuel = f;
           is = ap (λ (z : Model). withNodes z new) (C .is);
           long = length-set (q .nodes) p (totalMoved more rows (nodeAt (q .nodes) p)) ∙ C .long;
-          used = above-used (m .nodes) w k (C .used);
+          used = v;
           reach = reach-up (m .nodes) f k (rw e at (C .reach));
           parents = λ j. parent-at j (ℕ-discrete j p);
-          rest = λ j o n. getD-set-other (q .nodes) p j (totalMoved more rows (nodeAt (q .nodes) p)) noNode n ∙ C .rest j (step o) (λ z. over-up (m .nodes) w k (C .used) (rw z at o));
-          over = λ j o. C .over j (step o);
-          below = λ j o n. C .below j (step o) (λ z. over-up (m .nodes) w k (C .used) (rw z at o));
+          rest = λ j a.
+              getD-set-other (q .nodes) p j (totalMoved more rows (nodeAt (q .nodes) p)) noNode (λ z. not-above (m .nodes) w p v (rw z at a))
+              ∙ C .rest j (above-up (m .nodes) w k j a);
+          over = λ j a. C .over j (above-up (m .nodes) w k j a);
           goal = again f (rw e at (C .goal));
         }
 

@@ -40,6 +40,11 @@ movedAbove more rows (suc f) ns (suc k) =
     let p = nodeAt ns (suc k) .parent in
     movedAbove more rows f (set ns p (withTotal (moved more rows (nodeAt ns p .total)) (nodeAt ns p))) p
 
+-- node j stands above node k
+abbrev pub Above : List Node → ℕ → ℕ → Type 0
+Above ns j zero = ⊥
+Above ns j (suc k) = Over ns j (nodeAt ns (suc k) .parent)
+
 -- each of them can be so moved
 abbrev pub AllMovable : Bool → ℕ → List Node → ℕ → Type 0
-AllMovable more rows ns k = (j : ℕ) → Over ns j k → (j ≡ k → ⊥) → Movable more rows (nodeAt ns j .total)
+AllMovable more rows ns k = (j : ℕ) → Above ns j k → Movable more rows (nodeAt ns j .total)
