@@ -76,8 +76,9 @@ next-parts : (n : Node) (c p y : ℕ) → isNext n c p y ≡ true → (0 < c) ×
 next-parts n c p y e = (search parted, search parted, search parted, search parted)
 
 module _ (ns : List Node) (w : WellFormed ns) (gs : List Region) (size : length gs ≡ 512) (count : ℕ) where
-  abbrev all : Bool
-  all = regionsOk ns gs count
+  -- the test of all regions
+  abbrev whole : Bool
+  whole = regionsOk ns gs count
 
   next-child : (c p y : ℕ) → isNext (nodeAt ns (suc c)) (suc c) p y ≡ true → openChild ns p y ≡ suc c
   next-child c p y e = let q = next-parts (nodeAt ns (suc c)) (suc c) p y e in rw (q .2, q .3) at (child-by-is ns w isOpen c (λ n o. rw o) (q .1))
@@ -124,7 +125,7 @@ module _ (ns : List Node) (w : WellFormed ns) (gs : List Region) (size : length 
       go (off h b e) = off (place (h .opened)) (omega (arith, ap length (same (h .opened)))) e
 
   -- the rows have ended, and a region is left
-  pub course-ended : (j s p i : ℕ) → p ≡ 0 → directOf ns p ≤ i → j < count → Course ns gs count j s p i → false ≡ all
+  pub course-ended : (j s p i : ℕ) → p ≡ 0 → directOf ns p ≤ i → j < count → Course ns gs count j s p i → false ≡ whole
   unfolding runs
   course-ended j s (suc p) i z l b c = absurd (omega arith)
   course-ended j s zero i z l b (on a) =
@@ -133,7 +134,7 @@ module _ (ns : List Node) (w : WellFormed ns) (gs : List Region) (size : length 
   course-ended j s zero i z l b (off h q e) = sym e
 
   -- the regions have ended
-  pub course-end : (j s p i : ℕ) → j ≡ count → Course ns gs count j s p i → (eqb s (length (rows ns)) && zeroFrom gs j) ≡ all
+  pub course-end : (j s p i : ℕ) → j ≡ count → Course ns gs count j s p i → (eqb s (length (rows ns)) && zeroFrom gs j) ≡ whole
   unfolding runs
   course-end j s p i z (off h q e) = fail-l _ _ (ne-eqb s (length (rows ns)) (λ d. omega arith)) ∙ sym e
   course-end j s p i z (on a) = go (ℕ-discrete s (length (rows ns)))
@@ -142,7 +143,7 @@ module _ (ns : List Node) (w : WellFormed ns) (gs : List Region) (size : length 
       none [] e = refl
       none (x ∷ xs) e = absurd (omega arith)
 
-      go : Dec (s ≡ length (rows ns)) → (eqb s (length (rows ns)) && zeroFrom gs j) ≡ all
+      go : Dec (s ≡ length (rows ns)) → (eqb s (length (rows ns)) && zeroFrom gs j) ≡ whole
       go (yes d) =
           ap (λ (b : Bool). b && zeroFrom gs j) (eq-eqb s (length (rows ns)) d) ∙ sym (fits-none (drop j gs) count (512 - j) j (sym z)) ∙
           ap (λ (xs : List Row). fits (drop j gs) count (512 - j) j (runs s xs)) (sym (none (rest ns p i) (omega (arith, a .left)))) ∙ a .verdict
@@ -152,12 +153,12 @@ module _ (ns : List Node) (w : WellFormed ns) (gs : List Region) (size : length 
 
   -- on course, the next region is to be the next run of rows
   module _ (j s p i n q x : ℕ) (l : j < 512) (a : On ns gs count j s p i) (e : rest ns p i ≡ stretch p i (suc n) ++ rest ns q x) (h : HeadNot p (rest ns q x)) where
-    turn : (sameRegion (regionAt gs j) (region s p i (suc n)) && fits (drop (j + 1) gs) count (512 - (j + 1)) (j + 1) (runs (s + suc n) (rest ns q x))) ≡ all
+    turn : (sameRegion (regionAt gs j) (region s p i (suc n)) && fits (drop (j + 1) gs) count (512 - (j + 1)) (j + 1) (runs (s + suc n) (rest ns q x))) ≡ whole
     turn =
         sym (fits-at gs count j (region s p i (suc n)) (runs (s + suc n) (rest ns q x)) size l) ∙
         ap (fits (drop j gs) count (512 - j) j) (sym (ap (runs s) e ∙ runs-stretch s p i n (rest ns q x) h)) ∙ a .verdict
 
-    bad : sameRegion (regionAt gs j) (region s p i (suc n)) ≡ false → all ≡ false
+    bad : sameRegion (regionAt gs j) (region s p i (suc n)) ≡ false → whole ≡ false
     bad f = sym turn ∙ fail-l _ _ f
 
     good : sameRegion (regionAt gs j) (region s p i (suc n)) ≡ true → Place ns q x → On ns gs count (j + 1) (s + suc n) q x
@@ -174,10 +175,10 @@ module _ (ns : List Node) (w : WellFormed ns) (gs : List Region) (size : length 
   child-place p z c e = record { opened = open-child ns w p z c e .0; within = omega arith }
 
   -- the next region names another node than the walk's
-  lost : (j s c : ℕ) → j < 512 → 0 < directOf ns (suc c) → regionAt gs j .node ≢ suc c → On ns gs count j s (suc c) 0 → all ≡ false
+  lost : (j s c : ℕ) → j < 512 → 0 < directOf ns (suc c) → regionAt gs j .node ≢ suc c → On ns gs count j s (suc c) 0 → whole ≡ false
   lost j s c l f d a = go (ahead (suc c) 0 f)
     where
-      go : Next ns w (suc c) 0 → all ≡ false
+      go : Next ns w (suc c) 0 → whole ≡ false
       go (to-end n q h r) = bad j s (suc c) 0 n (suc c) (directOf ns (suc c)) l a r (end-not ns w (suc c) (a .there .opened)) (node-not (regionAt gs j) s (suc c) 0 (suc n) 0 d)
       go (to-child n k q z h r) = bad j s (suc c) 0 n (suc k) 0 l a r (child-not ns w (suc c) (0 + n) k z) (node-not (regionAt gs j) s (suc c) 0 (suc n) 0 d)
 
@@ -186,11 +187,11 @@ module _ (ns : List Node) (w : WellFormed ns) (gs : List Region) (size : length 
     g = regionAt gs j
 
     -- the region does not begin here, or has no rows, or too many
-    pub course-bad : begins (regionAt gs j) s p i (directOf ns p - i) ≡ false → Course ns gs count j s p i → false ≡ all
+    pub course-bad : begins (regionAt gs j) s p i (directOf ns p - i) ≡ false → Course ns gs count j s p i → false ≡ whole
     course-bad b (off h q e) = sym e
     course-bad b (on a) = sym (go (ahead p i inside))
       where
-        go : Next ns w p i → all ≡ false
+        go : Next ns w p i → whole ≡ false
         go (to-end n q h r) = bad j s p i n p (directOf ns p) (omega arith) a r (end-not ns w p (a .there .opened)) (begins-not (regionAt gs j) s p i (suc n) (directOf ns p - i) b (omega arith) (omega arith))
         go (to-child n c q z h r) = bad j s p i n (suc c) 0 (omega arith) a r (child-not ns w p (i + n) c z) (begins-not (regionAt gs j) s p i (suc n) (directOf ns p - i) b (omega arith) (omega arith))
 
@@ -240,10 +241,10 @@ module _ (ns : List Node) (w : WellFormed ns) (gs : List Region) (size : length 
       -- the next region names no open child at the region's last row
       module _ (k : ℕ) (named : k ≡ cond (ltb (regionAt gs (j + 1) .node) 256) (regionAt gs (j + 1) .node) 0) (none : isNext (nodeAt ns k) k p (i + regionAt gs j .length - 1) ≡ false) where
         -- an open child at the region's end, or before it
-        missed : (n c : ℕ) → i + n < directOf ns p → openChild ns p (i + n) ≡ suc c → rest ns p i ≡ stretch p i (suc n) ++ rest ns (suc c) 0 → On ns gs count j s p i → all ≡ false
+        missed : (n c : ℕ) → i + n < directOf ns p → openChild ns p (i + n) ≡ suc c → rest ns p i ≡ stretch p i (suc n) ++ rest ns (suc c) 0 → On ns gs count j s p i → whole ≡ false
         missed n c q f r a = go (ℕ-discrete (g .length) (suc n))
           where
-            go : Dec (g .length ≡ suc n) → all ≡ false
+            go : Dec (g .length ≡ suc n) → whole ≡ false
             go (yes e) =
                 let o = open-child ns w p (i + n) c f .0 in
                 let y : i + regionAt gs j .length - 1 ≡ i + n = omega arith in
@@ -266,11 +267,11 @@ module _ (ns : List Node) (w : WellFormed ns) (gs : List Region) (size : length 
             go (to-child n c q f h r) =
                 off place (omega (arith, a .left, over-child ns w p (g .length) i (i + n) c (omega arith) (omega arith) (omega arith) f)) (missed n c q f r a)
 
-        pub course-stuck : i + regionAt gs j .length ≢ directOf ns p → Course ns gs count j s p i → false ≡ all
+        pub course-stuck : i + regionAt gs j .length ≢ directOf ns p → Course ns gs count j s p i → false ≡ whole
         course-stuck z (off h q e) = sym e
         course-stuck z (on a) = sym (go (ahead p i inside))
           where
-            go : Next ns w p i → all ≡ false
+            go : Next ns w p i → whole ≡ false
             go (to-end n q h r) = bad j s p i n p (directOf ns p) (omega arith) a r (end-not ns w p (a .there .opened)) (length-not g s p i (suc n) 0 (λ e. z (omega arith)))
             go (to-child n c q f h r) = missed n c q f r a
 

@@ -60,7 +60,7 @@ module _ (n p : Node) where
   place-unused zero d u = absurd (d refl)
   place-unused (suc k) d u = rw u
 
--- a parent node-past the places is none
+-- a parent past the places is none
 six : (a b c d e f : Bool) → a ≡ false → (a && b && c && d && e && f) ≡ false
 six a b c d e f h = rw h
 

@@ -77,7 +77,7 @@ begins g s p i most = eqb (g .start) s && (eqb (g .node) p && (eqb (g .offset) i
 
 -- the regions end at place j, after s rows
 abbrev pub endsAt : Model → ℕ → ℕ → Bool
-endsAt m j s = eqb s (nodeAt (m .nodes) 0 .total) && sameList sameRegion (drop j (m .regions)) (replicate (512 - j) noRegion)
+endsAt m j s = eqb s (nodeAt (m .nodes) 0 .total) && sameList sameRegion (drop j (m .regions)) (replicate (regionPlaces - j) noRegion)
 
 -- the regions, and how many they are, are those of the rows
 unfoldable pub regionsOk : List Node → List Region → ℕ → Bool

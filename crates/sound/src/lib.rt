@@ -1,20 +1,21 @@
 // The soundness test: document 01's definition of a sound model, decided for any model whatever.
 //
-// Each part is made once over the model, with no search inside it: the places and the totals in one pass
-// over the nodes, the regions in one walk along the rows. No number is added before it is known to fit.
+// Each part goes over the model once: the places and the totals in a pass over the nodes each, the regions in
+// one walk along the rows, and twins over pairs of nodes. No number is added before it is known to fit. No chain
+// of parents is climbed: a total is below its parent's, so right totals let no chain go round.
 use model::Model;
 use model::Node;
 use model::Region;
 use nodes::in_use;
 ghost use mathlib.Core.Path.{_≡_};
-ghost use mathlib.Core.Bool.{Bool, true, false, cond, _&&_};
-ghost use Prim.Native.Nat.{_<_, _≤_, _-_, _+_};
-ghost use lib.ListN.{length, drop, replicate};
+ghost use mathlib.Core.Bool.{true, cond};
+ghost use Prim.Native.Nat.{_+_, _<_, _≤_};
+ghost use lib.ListN.{drop};
 ghost use lib.Dec.{ltb};
-ghost use Rattle.model.specs.Nodes.{nodeAt, used, isOpen};
+ghost use Rattle.model.specs.Nodes.{nodeAt, used};
 ghost use Rattle.model.specs.Rows.{rowTotal};
 ghost use Rattle.model.specs.Regions.{noRegion};
-ghost use Rattle.model.specs.Sound.{blank, captureOk, nodesOk, sameRegion, sameList, sound};
+ghost use Rattle.model.specs.Sound.{blank, captureOk, nodesOk, sameRegion, sound};
 ghost use Rattle.sound.specs.Tests.{zeros, seated, placeOk, placesOk, isTwin, hasTwins, openTotal, totalIs, Summed, totalsOk, isNext, begins, endsAt, regionsOk};
 
 // Six numbers that are all 0.

@@ -28,8 +28,7 @@ loop-holds : tie.Need-loop-holds Inv-loop μ-loop
 loop-holds c =
     let s = c in
     let m = s .args .t1 in
-    let size = nodes-long m _ (s .good .0) in
-    let w = well-formed (m .nodes) size (s .pre .0) in
+    let w = well-formed (m .nodes) (nodes-long m _ (s .good .0)) (s .pre .0) in
     let places = regions-long m _ (s .good .0) in
     (omega arith, s .pre .2, course-start (m .nodes) w (m .regions) places (m .«region_count»))
 
@@ -37,8 +36,7 @@ mul-n : tie.Need-mul-n Inv-loop μ-loop
 mul-n c =
     let s = c .before .before in
     let m = s .args .t1 in
-    let size = nodes-long m _ (s .good .0) in
-    let w = well-formed (m .nodes) size (s .pre .0) in
+    let w = well-formed (m .nodes) (nodes-long m _ (s .good .0)) (s .pre .0) in
     let places = regions-long m _ (s .good .0) in
     let l = c .before .loop in
     let low : l .p < 256 = used-small (m .nodes) w (l .p) (open-used (m .nodes) (l .p) (course-place (m .nodes) w (m .regions) places (m .«region_count») (l .j) (l .s) (l .p) (l .i) (l .inv .2) .opened)) in
@@ -48,8 +46,7 @@ element-copy-out-n : tie.Need-element-copy-out-n Inv-loop μ-loop
 element-copy-out-n c =
     let s = c .before .before in
     let m = s .args .t1 in
-    let size = nodes-long m _ (s .good .0) in
-    let w = well-formed (m .nodes) size (s .pre .0) in
+    let w = well-formed (m .nodes) (nodes-long m _ (s .good .0)) (s .pre .0) in
     let places = regions-long m _ (s .good .0) in
     let l = c .before .loop in
     used-small (m .nodes) w (l .p) (open-used (m .nodes) (l .p) (course-place (m .nodes) w (m .regions) places (m .«region_count») (l .j) (l .s) (l .p) (l .i) (l .inv .2) .opened))
@@ -58,8 +55,7 @@ returns : tie.Need-returns Inv-loop μ-loop
 returns c =
     let s = c .before .before .before .before .before .before in
     let m = s .args .t1 in
-    let size = nodes-long m _ (s .good .0) in
-    let w = well-formed (m .nodes) size (s .pre .0) in
+    let w = well-formed (m .nodes) (nodes-long m _ (s .good .0)) (s .pre .0) in
     let places = regions-long m _ (s .good .0) in
     let l = c .before .before .before .before .before .loop in
     course-ended (m .nodes) w (m .regions) places (m .«region_count») (l .j) (l .s) (l .p) (l .i) (c .if2 .taken) (c .before .if1 .taken) (c .before .before .before .before .loop-test .taken) (l .inv .2)
@@ -68,8 +64,7 @@ add-i : tie.Need-add-i Inv-loop μ-loop
 add-i c =
     let s = c .before .before .before .before .before .before .before in
     let m = s .args .t1 in
-    let size = nodes-long m _ (s .good .0) in
-    let w = well-formed (m .nodes) size (s .pre .0) in
+    let w = well-formed (m .nodes) (nodes-long m _ (s .good .0)) (s .pre .0) in
     let places = regions-long m _ (s .good .0) in
     let l = c .before .before .before .before .before .before .loop in
     omega (arith, node-fits m _ (s .good .0) (nodeAt (m .nodes) (l .p) .parent) .direct-fits, place-index (m .nodes) w (l .p) (c .before .if2 .left) (course-place (m .nodes) w (m .regions) places (m .«region_count») (l .j) (l .s) (l .p) (l .i) (l .inv .2) .opened))
@@ -78,8 +73,7 @@ loop-less : tie.Need-loop-less Inv-loop μ-loop
 loop-less c =
     let s = c .before .before .before .before .before .before .before in
     let m = s .args .t1 in
-    let size = nodes-long m _ (s .good .0) in
-    let w = well-formed (m .nodes) size (s .pre .0) in
+    let w = well-formed (m .nodes) (nodes-long m _ (s .good .0)) (s .pre .0) in
     let places = regions-long m _ (s .good .0) in
     let l = c .before .before .before .before .before .before .loop in
     omega (arith, depth-less (m .nodes) w (l .p) (c .before .if2 .left) (course-place (m .nodes) w (m .regions) places (m .«region_count») (l .j) (l .s) (l .p) (l .i) (l .inv .2) .opened))
@@ -88,8 +82,7 @@ loop-again : tie.Need-loop-again Inv-loop μ-loop
 loop-again c =
     let s = c .before .before .before .before .before .before .before in
     let m = s .args .t1 in
-    let size = nodes-long m _ (s .good .0) in
-    let w = well-formed (m .nodes) size (s .pre .0) in
+    let w = well-formed (m .nodes) (nodes-long m _ (s .good .0)) (s .pre .0) in
     let places = regions-long m _ (s .good .0) in
     let l = c .before .before .before .before .before .before .loop in
     (l .inv .0, l .inv .1, course-up (m .nodes) w (m .regions) places (m .«region_count») (l .j) (l .s) (l .p) (l .i) (c .before .if2 .left) (c .before .before .if1 .taken) (l .inv .2))
@@ -110,8 +103,7 @@ returns-2 : tie.Need-returns-2 Inv-loop μ-loop
 returns-2 c =
     let s = c .before .before .before .before .before .before .before .before .before in
     let m = s .args .t1 in
-    let size = nodes-long m _ (s .good .0) in
-    let w = well-formed (m .nodes) size (s .pre .0) in
+    let w = well-formed (m .nodes) (nodes-long m _ (s .good .0)) (s .pre .0) in
     let places = regions-long m _ (s .good .0) in
     let l = c .before .before .before .before .before .before .before .before .loop in
     course-bad (m .nodes) w (m .regions) places (m .«region_count») (l .j) (l .s) (l .p) (l .i) (omega arith) (c .before .before .before .before .if1 .left) (sym (c .before .begins-at .ensures) ∙ not-true _ (c .if3 .taken)) (l .inv .2)
@@ -120,8 +112,7 @@ add-end : tie.Need-add-end Inv-loop μ-loop
 add-end c =
     let s = c .before .before .before .before .before .before .before .before .before .before in
     let m = s .args .t1 in
-    let size = nodes-long m _ (s .good .0) in
-    let w = well-formed (m .nodes) size (s .pre .0) in
+    let w = well-formed (m .nodes) (nodes-long m _ (s .good .0)) (s .pre .0) in
     let places = regions-long m _ (s .good .0) in
     let l = c .before .before .before .before .before .before .before .before .before .loop in
     let b = (sym (c .before .before .begins-at .ensures) ∙ not-false _ (c .before .if3 .left)) in
@@ -132,8 +123,7 @@ add-s : tie.Need-add-s Inv-loop μ-loop
 add-s c =
     let s = c .before .before .before .before .before .before .before .before .before .before .before in
     let m = s .args .t1 in
-    let size = nodes-long m _ (s .good .0) in
-    let w = well-formed (m .nodes) size (s .pre .0) in
+    let w = well-formed (m .nodes) (nodes-long m _ (s .good .0)) (s .pre .0) in
     let places = regions-long m _ (s .good .0) in
     let l = c .before .before .before .before .before .before .before .before .before .before .loop in
     let b = (sym (c .before .before .before .begins-at .ensures) ∙ not-false _ (c .before .before .if3 .left)) in
@@ -170,8 +160,7 @@ sub-is-next : tie.Need-sub-is-next Inv-loop μ-loop
 sub-is-next c =
     let s = c .before .before .before .before .before .before .before .before .before .before .before .before .before in
     let m = s .args .t1 in
-    let size = nodes-long m _ (s .good .0) in
-    let w = well-formed (m .nodes) size (s .pre .0) in
+    let w = well-formed (m .nodes) (nodes-long m _ (s .good .0)) (s .pre .0) in
     let places = regions-long m _ (s .good .0) in
     let l = c .before .before .before .before .before .before .before .before .before .before .before .before .loop in
     let b = (sym (c .before .before .before .before .before .begins-at .ensures) ∙ not-false _ (c .before .before .before .before .if3 .left)) in
@@ -185,8 +174,7 @@ loop-less-2 : tie.Need-loop-less-2 Inv-loop μ-loop
 loop-less-2 c =
     let s = c .before .before .before .before .before .before .before .before .before .before .before .before .before .before .before in
     let m = s .args .t1 in
-    let size = nodes-long m _ (s .good .0) in
-    let w = well-formed (m .nodes) size (s .pre .0) in
+    let w = well-formed (m .nodes) (nodes-long m _ (s .good .0)) (s .pre .0) in
     let places = regions-long m _ (s .good .0) in
     let l = c .before .before .before .before .before .before .before .before .before .before .before .before .before .before .loop in
     let b = (sym (c .before .before .before .before .before .before .before .begins-at .ensures) ∙ not-false _ (c .before .before .before .before .before .before .if3 .left)) in
@@ -199,8 +187,7 @@ loop-again-2 : tie.Need-loop-again-2 Inv-loop μ-loop
 loop-again-2 c =
     let s = c .before .before .before .before .before .before .before .before .before .before .before .before .before .before .before in
     let m = s .args .t1 in
-    let size = nodes-long m _ (s .good .0) in
-    let w = well-formed (m .nodes) size (s .pre .0) in
+    let w = well-formed (m .nodes) (nodes-long m _ (s .good .0)) (s .pre .0) in
     let places = regions-long m _ (s .good .0) in
     let l = c .before .before .before .before .before .before .before .before .before .before .before .before .before .before .loop in
     let b = (sym (c .before .before .before .before .before .before .before .begins-at .ensures) ∙ not-false _ (c .before .before .before .before .before .before .if3 .left)) in
@@ -211,8 +198,7 @@ returns-3 : tie.Need-returns-3 Inv-loop μ-loop
 returns-3 c =
     let s = c .before .before .before .before .before .before .before .before .before .before .before .before .before .before .before .before .before in
     let m = s .args .t1 in
-    let size = nodes-long m _ (s .good .0) in
-    let w = well-formed (m .nodes) size (s .pre .0) in
+    let w = well-formed (m .nodes) (nodes-long m _ (s .good .0)) (s .pre .0) in
     let places = regions-long m _ (s .good .0) in
     let l = c .before .before .before .before .before .before .before .before .before .before .before .before .before .before .before .before .loop in
     let b = (sym (c .before .before .before .before .before .before .before .before .before .begins-at .ensures) ∙ not-false _ (c .before .before .before .before .before .before .before .before .if3 .left)) in
@@ -220,21 +206,13 @@ returns-3 c =
     course-stuck (m .nodes) w (m .regions) places (m .«region_count») (l .j) (l .s) (l .p) (l .i) (omega arith) inside b (c .before .before .before .before .before .node-number .result) (c .before .before .before .before .before .node-number .ensures) (sym (c .before .before .before .is-next .ensures) ∙ c .before .before .if4 .left) (c .if5 .taken) (l .inv .2)
 
 loop-less-3 : tie.Need-loop-less-3 Inv-loop μ-loop
-loop-less-3 c =
-    let s = c .before .before .before .before .before .before .before .before .before .before .before .before .before .before .before .before .before in
-    let m = s .args .t1 in
-    let size = nodes-long m _ (s .good .0) in
-    let w = well-formed (m .nodes) size (s .pre .0) in
-    let places = regions-long m _ (s .good .0) in
-    let l = c .before .before .before .before .before .before .before .before .before .before .before .before .before .before .before .before .loop in
-    omega arith
+loop-less-3 c = omega arith
 
 loop-again-3 : tie.Need-loop-again-3 Inv-loop μ-loop
 loop-again-3 c =
     let s = c .before .before .before .before .before .before .before .before .before .before .before .before .before .before .before .before .before in
     let m = s .args .t1 in
-    let size = nodes-long m _ (s .good .0) in
-    let w = well-formed (m .nodes) size (s .pre .0) in
+    let w = well-formed (m .nodes) (nodes-long m _ (s .good .0)) (s .pre .0) in
     let places = regions-long m _ (s .good .0) in
     let l = c .before .before .before .before .before .before .before .before .before .before .before .before .before .before .before .before .loop in
     let b = (sym (c .before .before .before .before .before .before .before .before .before .begins-at .ensures) ∙ not-false _ (c .before .before .before .before .before .before .before .before .if3 .left)) in
@@ -248,8 +226,7 @@ returns-4 : tie.Need-returns-4 Inv-loop μ-loop
 returns-4 c =
     let s = c .before .before .before in
     let m = s .args .t1 in
-    let size = nodes-long m _ (s .good .0) in
-    let w = well-formed (m .nodes) size (s .pre .0) in
+    let w = well-formed (m .nodes) (nodes-long m _ (s .good .0)) (s .pre .0) in
     let places = regions-long m _ (s .good .0) in
     let l = c .before .before .loop in
     c .ends-at .ensures ∙ ap (λ (n : ℕ). eqb (l .s) n && zeroFrom (m .regions) (l .j)) (s .pre .1) ∙ course-end (m .nodes) w (m .regions) places (m .«region_count») (l .j) (l .s) (l .p) (l .i) (omega arith) (l .inv .2)
