@@ -27,7 +27,7 @@ use Rattle.tree.specs.Paths.{Over, here, step}
 use Rattle.tree.specs.WellFormed.{Used, Opens, up, WellFormed}
 
 -- the nodes above an open node are open
-over-open : (ns : List Node) (w : WellFormed ns) (j k : ℕ) → Opens ns k → Over ns j k → Opens ns j
+pub over-open : (ns : List Node) (w : WellFormed ns) (j k : ℕ) → Opens ns k → Over ns j k → Opens ns j
 over-open ns w j k o (here e) = rw e at o
 over-open ns w j k o (step {k = i} v) = over-open ns w j (up ns (suc i)) (w .placed i (open-used ns (suc i) o) .above) v
 

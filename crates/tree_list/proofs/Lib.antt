@@ -5,3 +5,4 @@ pub mod AnswerNew
 pub mod AnswerCount
 pub mod AnswerRelease
 pub mod AnswerFetch
+pub mod AnswerOpen

@@ -1,10 +1,12 @@
 // Answers that change nothing.
 use crate::blank::no_row;
+use crate::logs::no_log;
+use model::ChangeAnswer;
 use model::FetchAnswer;
 use model::Model;
 use model::ModelAnswer;
 ghost use mathlib.Core.Path.{_≡_};
-ghost use Rattle.model.specs.Answers.{justModel, noFetch};
+ghost use Rattle.model.specs.Answers.{justModel, noFetch, noChange};
 
 pub fn just_model(refusal: u64, m: Model) -> ModelAnswer
     ensures { λ r. ⌜ r ≡ justModel refusal m ⌝ }
@@ -20,5 +22,16 @@ pub fn no_fetch(refusal: u64, m: Model) -> FetchAnswer
         refusal,
         model: m,
         row,
+    }
+}
+
+pub fn no_change(refusal: u64, m: Model) -> ChangeAnswer
+    ensures { λ r. ⌜ r ≡ noChange refusal m ⌝ }
+{
+    let log = no_log();
+    ChangeAnswer {
+        refusal,
+        model: m,
+        log,
     }
 }

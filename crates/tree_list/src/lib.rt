@@ -4,11 +4,14 @@ mod answers;
 mod blank;
 mod counting;
 mod fetching;
+mod logs;
+mod opening;
 mod releasing;
 mod rows;
 mod starting;
 
 pub use counting::count;
 pub use fetching::fetch;
+pub use opening::open;
 pub use releasing::release;
 pub use starting::new;

@@ -1,0 +1,5 @@
+-- What the contracts of this crate cite.
+pub mod Openable
+pub mod Closable
+pub mod Growing
+pub mod Visiting

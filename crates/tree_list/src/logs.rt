@@ -1,0 +1,36 @@
+// Logs: of no change, and of one.
+use model::Log;
+use model::Record;
+ghost use mathlib.Core.Path.{_≡_};
+ghost use mathlib.Core.List.{[], _∷_};
+ghost use Rattle.model.specs.Logs.{noRecord, logOf};
+
+fn no_record() -> Record
+    ensures { λ r. ⌜ r ≡ noRecord ⌝ }
+{
+    Record {
+        kind: 0,
+        position: 0,
+        removed: 0,
+        added: 0,
+    }
+}
+
+pub fn no_log() -> Log
+    ensures { λ r. ⌜ r ≡ logOf [] ⌝ }
+{
+    let none = no_record();
+    Log {
+        records: [none; 512],
+        len: 0,
+    }
+}
+
+pub fn log_of_one(change: Record) -> Log
+    ensures { λ r. ⌜ r ≡ logOf (change ∷ []) ⌝ }
+{
+    let mut log = no_log();
+    log.records[0] = change;
+    log.len = 1;
+    log
+}
