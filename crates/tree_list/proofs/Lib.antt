@@ -1,4 +1,5 @@
 -- Laws that the operations' proofs apply.
+pub mod Records
 pub mod SoundRows
 pub mod InPlace
 pub mod AnswerNew

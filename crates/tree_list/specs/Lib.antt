@@ -1,3 +1,4 @@
--- What private functions ask of their callers.
+-- What private functions ask of their callers, and what they give.
 pub mod Following
 pub mod OpenedRow
+pub mod Logging

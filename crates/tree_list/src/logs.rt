@@ -1,9 +1,11 @@
-// Logs: of no change, and of one.
+// Logs: of no change, of one, and of one more.
 use model::Log;
 use model::Record;
 ghost use mathlib.Core.Path.{_≡_};
 ghost use mathlib.Core.List.{[], _∷_};
+ghost use Prim.Native.Nat.{_<_};
 ghost use Rattle.model.specs.Logs.{noRecord, logOf};
+ghost use Rattle.tree_list.specs.Logging.{logged};
 
 fn no_record() -> Record
     ensures { λ r. ⌜ r ≡ noRecord ⌝ }
@@ -33,4 +35,16 @@ pub fn log_of_one(change: Record) -> Log
     log.records[0] = change;
     log.len = 1;
     log
+}
+
+// One record more.
+pub fn log_also(log: Log, change: Record) -> Log
+    requires { ⌜ log .len < 512 ⌝ }
+    ensures { λ r. ⌜ r ≡ logged log change ⌝ }
+{
+    let mut q = log;
+    let at = q.len;
+    q.records[at as usize] = change;
+    q.len = at + 1;
+    q
 }
