@@ -1,45 +1,37 @@
 -- The rows of a node's children, none of which is open: they are one region, and without it the regions are those of the rows that are left.
-use Prim.Native.Nat.{ℕ, zero, suc, _+_, _-_, _^_, _≤_, _<_}
+use Prim.Native.Nat.{ℕ, zero, suc, _+_, _^_, _<_}
 use native.Mathlib.Omega.{arith}
-use native.Mathlib.Nat.{zero-add, add-zero}
+use native.Mathlib.Nat.{zero-add}
 use native.Mathlib.Numerals.{add-one}
-use native.Mathlib.Decide.{ℕ-discrete}
 use mathlib.Core.Path.{_≡_, refl, sym, ap, _∙_}
 use mathlib.Core.Logic.{_≢_}
-use mathlib.Core.Bool.{false, cond}
 use mathlib.Core.List.{List, [], _∷_, _++_, append-assoc}
-use lib.ListN.{length, getD, set, take, drop, length-drop, List·getD-append}
-use lib.Seq.{length-take-le, getD-take, getD-drop, getD-append-add, getD-set-same, getD-set-other}
-use lib.Dec.{eqb}
+use lib.ListN.{length, getD, take, drop, length-drop, List·getD-append}
+use lib.Seq.{length-take-le, getD-take, getD-drop, getD-append-add}
 use Rattle.model.specs.declared.Node.{Node}
 use Rattle.model.specs.declared.Model.{Model}
 use Rattle.model.specs.declared.Region.{Region}
-use Rattle.model.specs.declared.RowNumber.{RowNumber}
 use Rattle.model.specs.declared.RegionAt.the-variants.{At, None}
-use Rattle.model.specs.Places.{regionPlaces, rowLimit, depth}
-use Rattle.model.specs.Nodes.{noNode, nodeAt, directOf, openChild, withOpen, orNone}
-use Rattle.model.specs.Rows.{Row, rows, rowTotal, rowOf, totalOf}
-use Rattle.model.specs.Regions.{runs, region, noRegion}
-use Rattle.model.specs.Settle.{settle}
-use Rattle.model.specs.Close.{freeBelow}
+use Rattle.model.specs.Nodes.{directOf, openChild}
+use Rattle.model.specs.Rows.{Row, rows, rowOf}
+use Rattle.model.specs.Regions.{runs, region}
 use Rattle.runs.specs.Edits.{remove}
-use Rattle.runs.specs.Regions.{stretch, at, total, Tiled, Tidy, Parted}
+use Rattle.runs.specs.Regions.{stretch, at, Parted}
 use Rattle.runs.specs.Search.{regionAt}
 use Rattle.runs.specs.Changes.{joined, collapsed}
-use Rattle.runs.specs.Laid.{live, laid, Laid}
-use Rattle.runs.proofs.Rows.{run-at, run-found, settle-laid, rows-live, rows-laid, rows-normal, rows-total, collapse-runs}
+use Rattle.runs.specs.Laid.{live, laid}
+use Rattle.runs.proofs.Rows.{run-at, run-found, rows-live, collapse-runs}
 use Rattle.runs.proofs.Search.{at-holds, length-stretch}
 use Rattle.tree.specs.WellFormed.{Used, Opens, up, ix, WellFormed}
-use Rattle.tree.specs.Paths.{Over, here, step}
-use Rattle.tree.proofs.Over.{up≢, over-up}
-use Rattle.tree.proofs.Regions.{regions-fit}
-use Rattle.tree.proofs.Rows.{row-of, row-follows, rows-tidy}
-use Rattle.tree.proofs.WellFormed.{open-used, used-small}
-use Rattle.steps.specs.Changes.{closedAt, bare, Bare}
-use Rattle.steps.specs.Settled.{Given, Raised, Sound, withNodes}
+use Rattle.tree.proofs.Over.{up≢}
+use Rattle.tree.proofs.Rows.{row-of, row-follows}
+use Rattle.tree.proofs.WellFormed.{open-used}
+use Rattle.steps.specs.Changes.{closedAt}
+use Rattle.steps.specs.Settled.{Sound}
 use Rattle.steps.proofs.Opening.{row-shows}
-use Rattle.steps.proofs.Closing.{length-free, free-at, close-rows, close-row-total, close-stretch}
+use Rattle.steps.proofs.Closing.{close-rows, close-stretch}
 use Rattle.edits.specs.Closable.{Closable}
+use Rattle.steps.proofs.SoundRegions.{laid-rows, few, neat}
 
 getD-stretch : (k i n j : ℕ) (d : Row) → j < n → getD (stretch k i n) j d ≡ (k, i + j)
 getD-stretch k i zero j d h = absurd (omega arith)
@@ -55,24 +47,6 @@ parted-by (x ∷ z ∷ xs) ys d h = parted-by (z ∷ xs) ys d (λ i e l. h (suc 
 
 -- the rows of a sound model's regions
 module _ (m : Model) (S : Sound m) where
-  laid-rows : m ≡ laid m (runs 0 (rows (m .nodes)))
-  laid-rows = settle-laid m (m .nodes) (S .is)
-
-  few : length (runs 0 (rows (m .nodes))) ≤ regionPlaces
-  few = omega (arith, regions-fit (m .nodes) (S .well))
-
-  neat : Tidy (rows (m .nodes))
-  neat = rows-tidy (m .nodes) (S .well)
-
-  pub sound-laid : Laid m
-  sound-laid = rows-laid m (rows (m .nodes)) laid-rows few neat
-
-  pub sound-tiled : Tiled 0 (live m)
-  sound-tiled = rows-normal m (rows (m .nodes)) laid-rows few neat .tiled
-
-  pub sound-total : total (live m) < 2 ^ 64
-  sound-total = omega (arith, rows-total m (rows (m .nodes)) laid-rows few neat, S .limit)
-
   -- the region of node k's children, where none of them is open
   module _ (k : ℕ) (o : Opens (m .nodes) (suc k)) (none : (i : ℕ) → openChild (m .nodes) (suc k) i ≡ 0) where
     abbrev ns : List Node
@@ -145,7 +119,7 @@ module _ (m : Model) (S : Sound m) where
     spot = length (runs 0 before)
 
     live-parts : live m ≡ runs 0 (before ++ (stretch (suc k) 0 many ++ after))
-    live-parts = rows-live m (rows ns) laid-rows few neat ∙ ap (runs 0) parts
+    live-parts = rows-live m (rows ns) (laid-rows m S) (few m S) (neat m S) ∙ ap (runs 0) parts
 
     found : regionAt (live m) first ≡ At spot
     found =
@@ -165,30 +139,30 @@ module _ (m : Model) (S : Sound m) where
     -- without it the regions are those of the rows that are left
     spot-out : laid m (joined (collapsed (live m) spot)) ≡ laid m (runs 0 (rows (closedAt ns (suc k))))
     spot-out =
-        collapse-runs m (rows ns) laid-rows few neat spot spot-below
+        collapse-runs m (rows ns) (laid-rows m S) (few m S) (neat m S) spot spot-below
         ∙ ap (λ (g : Region). laid m (runs 0 (remove (g .start) (g .length) (rows ns)))) spot-is
         ∙ ap (λ (l : List Row). laid m (runs 0 l)) (sym (close-rows ns w k o none))
 
 -- by the node's number, as the code reads it
 module _ (m : Model) (S : Sound m) where
-  abbrev firstRow : ℕ → ℕ
-  firstRow k = rowOf (m .nodes) k + 1
+  abbrev nextRow : ℕ → ℕ
+  nextRow k = rowOf (m .nodes) k + 1
 
-  pub first-row-fits : (k : ℕ) → Closable (m .nodes) k → firstRow k < 2 ^ 64
-  first-row-fits zero C = absurd (omega (arith, C .above))
-  first-row-fits (suc k) C = omega (arith, row-of (m .nodes) (S .well) k (open-used (m .nodes) (suc k) (C .opens)) .0, S .limit)
+  pub next-row-fits : (k : ℕ) → Closable (m .nodes) k → nextRow k < 2 ^ 64
+  next-row-fits zero C = absurd (omega (arith, C .above))
+  next-row-fits (suc k) C = omega (arith, row-of (m .nodes) (S .well) k (open-used (m .nodes) (suc k) (C .opens)) .0, S .limit)
 
-  pub first-row-found : (k : ℕ) → Closable (m .nodes) k → regionAt (live m) (firstRow k) ≡ None → ⊥
-  first-row-found zero C n = absurd (omega (arith, C .above))
-  first-row-found (suc k) C n =
-      let f : regionAt (live m) (firstRow (suc k)) ≡ At (spot m S k (C .opens) (C .none)) = ap (regionAt (live m)) (add-one (rowOf (m .nodes) (suc k))) ∙ found m S k (C .opens) (C .none) in
+  pub next-row-found : (k : ℕ) → Closable (m .nodes) k → regionAt (live m) (nextRow k) ≡ None → ⊥
+  next-row-found zero C n = absurd (omega (arith, C .above))
+  next-row-found (suc k) C n =
+      let f : regionAt (live m) (nextRow (suc k)) ≡ At (spot m S k (C .opens) (C .none)) = ap (regionAt (live m)) (add-one (rowOf (m .nodes) (suc k))) ∙ found m S k (C .opens) (C .none) in
       let z : _≡_ {A = ℕ} 0 1 = cc in
       omega arith
 
-  pub children-out : (k : ℕ) → Closable (m .nodes) k → (i : ℕ) → regionAt (live m) (firstRow k) ≡ At i → laid m (joined (collapsed (live m) i)) ≡ laid m (runs 0 (rows (closedAt (m .nodes) k)))
+  pub children-out : (k : ℕ) → Closable (m .nodes) k → (i : ℕ) → regionAt (live m) (nextRow k) ≡ At i → laid m (joined (collapsed (live m) i)) ≡ laid m (runs 0 (rows (closedAt (m .nodes) k)))
   children-out zero C i e = absurd (omega (arith, C .above))
   children-out (suc k) C i e =
-      let f : regionAt (live m) (firstRow (suc k)) ≡ At (spot m S k (C .opens) (C .none)) = ap (regionAt (live m)) (add-one (rowOf (m .nodes) (suc k))) ∙ found m S k (C .opens) (C .none) in
+      let f : regionAt (live m) (nextRow (suc k)) ≡ At (spot m S k (C .opens) (C .none)) = ap (regionAt (live m)) (add-one (rowOf (m .nodes) (suc k))) ∙ found m S k (C .opens) (C .none) in
       let g : i ≡ spot m S k (C .opens) (C .none) = cc in
       rw g (spot-out m S k (C .opens) (C .none))
 

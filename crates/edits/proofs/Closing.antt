@@ -1,5 +1,5 @@
 -- One node closed in place: the regions without its children, the totals above it, its child nodes freed, and the published count.
-use Prim.Native.Nat.{ℕ, zero, suc, _+_, _-_, _^_, _≤_, _<_}
+use Prim.Native.Nat.{ℕ, zero, suc, _+_, _-_, _≤_, _<_}
 use native.Mathlib.Omega.{arith}
 use native.Mathlib.Decide.{ℕ-discrete}
 use mathlib.Core.Path.{_≡_, refl, sym, ap, _∙_}
@@ -15,7 +15,7 @@ use Rattle.model.specs.declared.Model.{Model}
 use Rattle.model.specs.declared.Region.{Region}
 use Rattle.model.specs.Places.{depth, regionPlaces, pad}
 use Rattle.model.specs.Nodes.{noNode, nodeAt, directOf, isOpen, openChild, withOpen, orNone}
-use Rattle.model.specs.Rows.{rows, rowTotal, totalOf}
+use Rattle.model.specs.Rows.{rows}
 use Rattle.model.specs.Regions.{runs, noRegion}
 use Rattle.model.specs.Settle.{settle}
 use Rattle.model.specs.Close.{freeBelow}
@@ -28,7 +28,7 @@ use Rattle.lists.proofs.Bools.{bool, differ}
 use Rattle.tree.proofs.WellFormed.{open-used, used-small}
 use Rattle.steps.specs.Changes.{closedAt, bare, Bare}
 use Rattle.steps.specs.Settled.{Given, Raised, Sound, withNodes}
-use Rattle.steps.proofs.Closing.{length-free, free-at, closed-other, no-open-child, close-row-total, close-total-over}
+use Rattle.steps.proofs.Closing.{length-free, free-at, no-open-child, close-row-total, close-total-over}
 use Rattle.steps.proofs.Settling.{given-settle, sound-given, bare-closed}
 use Rattle.steps.proofs.Totals.{close-totalled}
 use Rattle.totals.specs.Totals.{movedAbove, Above, AllMovable}
@@ -56,7 +56,7 @@ same-closed xs ys k j h l e f = go (ℕ-discrete j k)
         ∙ sym (getD-set-other (freeBelow k ys) k j (shut (nodeAt ys k)) noNode d)
 
 -- a node that is neither the closed one nor a child of it stays
-closed-away : (xs : List Node) (k j : ℕ) → j ≢ k → up xs j ≢ k → nodeAt (closedAt xs k) j ≡ nodeAt xs j
+pub closed-away : (xs : List Node) (k j : ℕ) → j ≢ k → up xs j ≢ k → nodeAt (closedAt xs k) j ≡ nodeAt xs j
 unfolding closedAt
 closed-away xs k j d e = getD-set-other (freeBelow k xs) k j (orNone (withOpen false (nodeAt xs k))) noNode d ∙ free-at k xs j ∙ rw (ne-eqb (up xs j) k e)
 

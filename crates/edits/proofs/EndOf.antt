@@ -1,7 +1,7 @@
 -- The end of an open node's rows: the row there has another parent than the row before it, so a region starts there.
-use Prim.Native.Nat.{ℕ, zero, suc, _+_, _-_, _≤_, _<_}
+use Prim.Native.Nat.{ℕ, suc, _+_, _-_, _≤_, _<_}
 use native.Mathlib.Omega.{arith}
-use mathlib.Core.Path.{_≡_, refl, sym, ap, _∙_}
+use mathlib.Core.Path.{_≡_, refl, ap, _∙_}
 use mathlib.Core.Logic.{_⊎_, inl, inr, _≢_}
 use mathlib.Core.List.{List, [], List·Memᴰ as In}
 use lib.ListN.{length, getD, take, drop, length-take, length-drop}
@@ -13,18 +13,15 @@ use Rattle.paths.proofs.Order.{ext-parent, under-child, ext-branch, branch-lt, 
 use Rattle.paths.proofs.Sorted.{at-in, at-after, cut-low, cut-high}
 use Rattle.paths.proofs.Listings.{branch-inside}
 use Rattle.model.specs.declared.Node.{Node}
-use Rattle.model.specs.declared.Model.{Model}
-use Rattle.model.specs.declared.RegionAt.the-variants.{At as Place, None}
-use Rattle.model.specs.Places.{rowLimit}
-use Rattle.model.specs.Nodes.{nodeAt, directOf}
-use Rattle.model.specs.Rows.{Row, rows, rowTotal, rowAt, rowOf, totalOf, paths}
+use Rattle.model.specs.Nodes.{directOf}
+use Rattle.model.specs.Rows.{rowTotal, rowAt, rowOf, paths}
 use Rattle.model.specs.Update.{endOf}
-use Rattle.tree.specs.WellFormed.{Used, Opens, WellFormed}
+use Rattle.tree.specs.WellFormed.{Opens, WellFormed}
 use Rattle.tree.specs.Paths.{shape, to}
 use Rattle.tree.proofs.WellFormed.{open-used}
 use Rattle.tree.proofs.Find.{rooted}
 use Rattle.tree.proofs.Listing.{lists, at-row, count-at}
-use Rattle.tree.proofs.Rows.{at-node, total-children, end-of, end-fits}
+use Rattle.tree.proofs.Rows.{at-node, total-children, end-of}
 
 -- a member at a place, before or from a place on
 at-take : (l : List Path) (n r : ℕ) (x : Path) → At l r x → r < n → In x (take n l)

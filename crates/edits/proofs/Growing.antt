@@ -4,14 +4,13 @@ use native.Mathlib.Omega.{arith}
 use native.Mathlib.Decide.{decLt}
 use mathlib.Core.Path.{_≡_, refl, sym, ap, _∙_}
 use mathlib.Core.List.{List, _++_, append-assoc}
-use lib.ListN.{length, getD, take, drop, set}
+use lib.ListN.{length, take, drop, set}
 use Rattle.model.specs.declared.Node.{Node}
 use Rattle.model.specs.declared.Model.{Model}
-use Rattle.model.specs.declared.Region.{Region}
 use Rattle.model.specs.declared.RegionAt.the-variants.{At, None}
 use Rattle.model.specs.Places.{regionPlaces, rowLimit}
 use Rattle.model.specs.Nodes.{nodeAt, directOf, withDirect}
-use Rattle.model.specs.Rows.{Row, rows, rowTotal, rowAt, rowOf, totalOf}
+use Rattle.model.specs.Rows.{Row, rows, rowTotal, rowOf, totalOf}
 use Rattle.model.specs.Regions.{runs}
 use Rattle.model.specs.Settle.{settle}
 use Rattle.model.specs.Update.{endOf}
@@ -21,11 +20,11 @@ use Rattle.runs.specs.Changes.{joined, grown}
 use Rattle.runs.specs.Laid.{live, laid, Laid}
 use Rattle.runs.proofs.Rows.{settle-laid, rows-live, rows-laid, rows-normal, rows-total, find-none, find-past, grow-runs, grow-found, grow-past}
 use Rattle.runs.proofs.Search.{at-holds}
-use Rattle.tree.specs.WellFormed.{Used, Opens, WellFormed}
+use Rattle.tree.specs.WellFormed.{Opens}
 use Rattle.tree.proofs.WellFormed.{open-used, used-small}
 use Rattle.tree.proofs.Regions.{regions-fit}
 use Rattle.tree.proofs.Rows.{rows-tidy, end-fits}
-use Rattle.steps.specs.Settled.{Sound, Given, withNodes}
+use Rattle.steps.specs.Settled.{Sound, withNodes}
 use Rattle.steps.proofs.Settling.{sound-given, given-settle}
 use Rattle.steps.proofs.Growing.{grow-rows, grow-row-total}
 use Rattle.steps.proofs.Totals.{grow-totalled}

@@ -25,7 +25,7 @@ use Rattle.model.specs.declared.Node.{Node}
 use Rattle.model.specs.Places.{longestChain, depth}
 use Rattle.model.specs.Nodes.{isOpen, directOf, openChild, keep, childrenFrom, children}
 use Rattle.model.specs.Close.{closingOrder}
-use Rattle.paths.specs.Order.{Path, _·_, Ext, Under, lt-irrefl}
+use Rattle.paths.specs.Order.{Path, _·_, Under, lt-irrefl}
 use Rattle.paths.proofs.Order.{child-ext, under-ext, ext-longer, length-child, branch-lt}
 use Rattle.tree.specs.Paths.{to, From}
 use Rattle.tree.specs.WellFormed.{Opens, up, ix, WellFormed}

@@ -1,11 +1,11 @@
 -- Laws that the proofs of the steps apply.
 pub mod Chains
-pub mod Regions
 pub mod Opening
 pub mod Freeing
 pub mod ChildRows
 pub mod Closing
 pub mod InnerFirst
+pub mod Course
 pub mod EndOf
 pub mod Raising
 pub mod Growing

@@ -3,17 +3,17 @@ use Prim.Native.Nat.{ℕ, zero, suc, _+_, _^_, _≤_, _<_}
 use native.Mathlib.Omega.{arith}
 use mathlib.Core.Path.{_≡_, refl, sym, ap, _∙_}
 use mathlib.Core.Logic.{_≢_}
-use mathlib.Core.Bool.{true, false}
+use mathlib.Core.Bool.{true}
 use mathlib.Core.List.{List, append-assoc}
 use lib.ListN.{length, set}
 use Rattle.lists.proofs.Bools.{differ}
 use Rattle.model.specs.declared.Node.{Node}
 use Rattle.model.specs.declared.Region.{Region}
 use Rattle.model.specs.declared.Model.{Model}
-use Rattle.model.specs.Places.{depth, regionPlaces, pad}
-use Rattle.model.specs.Nodes.{nodeAt, directOf, isOpen, withOpen}
+use Rattle.model.specs.Places.{depth, regionPlaces}
+use Rattle.model.specs.Nodes.{nodeAt, directOf, withOpen}
 use Rattle.model.specs.Rows.{Row, rows, rowTotal, totalOf}
-use Rattle.model.specs.Regions.{runs, noRegion}
+use Rattle.model.specs.Regions.{runs}
 use Rattle.model.specs.Settle.{settle}
 use Rattle.runs.specs.Regions.{at, total, Tiled}
 use Rattle.runs.specs.Search.{regionAt, Holds}
@@ -25,7 +25,7 @@ use Rattle.tree.specs.WellFormed.{Used, Opens, up, WellFormed}
 use Rattle.tree.specs.Paths.{Over}
 use Rattle.tree.proofs.WellFormed.{open-used, zero-open}
 use Rattle.steps.specs.Changes.{Put}
-use Rattle.steps.specs.Settled.{Sound, Given, Raised, withNodes}
+use Rattle.steps.specs.Settled.{Given, Raised, withNodes}
 use Rattle.steps.proofs.Put.{put-same, put-other, put-used, put-keeps, put-well}
 use Rattle.steps.proofs.Opening.{open-rows, open-row-total}
 use Rattle.steps.proofs.Totals.{over-open, open-totalled}
@@ -34,7 +34,7 @@ use Rattle.totals.specs.Totals.{movedAbove, Above, AllMovable}
 use Rattle.totals.proofs.Moves.{moved-above, kept-else}
 use Rattle.edits.specs.Openable.{Openable}
 use Rattle.edits.proofs.Chains.{total-rows, over-to, over-of, moved-bare}
-use Rattle.edits.proofs.Regions.{few, neat, with-laid, no-row, regions-room, found-inside, with-regions, regions-laid, regions-tiled, regions-total, region-children}
+use Rattle.steps.proofs.SoundRegions.{few, neat, no-row, regions-room, found-inside, with-regions, regions-laid, regions-tiled, regions-total, region-children}
 
 -- the model with another published count
 abbrev pub publishing : ℕ → Model → Model

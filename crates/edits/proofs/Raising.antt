@@ -1,15 +1,15 @@
 -- An open node with more children, and totals raised from it up.
-use Prim.Native.Nat.{ℕ, zero, suc, _+_, _-_, _^_, _≤_, _<_}
+use Prim.Native.Nat.{ℕ, zero, suc, _+_, _-_, _<_}
 use native.Mathlib.Omega.{arith}
 use native.Mathlib.Decide.{ℕ-discrete}
 use mathlib.Core.Path.{_≡_, refl, sym, ap, subst, _∙_}
 use mathlib.Core.Logic.{_⊎_, inl, inr, _≢_}
-use mathlib.Core.Bool.{Bool, true, false}
+use mathlib.Core.Bool.{true, false}
 use mathlib.Core.List.{List}
-use lib.ListN.{length, set, length-set}
+use lib.ListN.{set}
 use Rattle.lists.proofs.Bools.{bool, differ}
 use Rattle.model.specs.declared.Node.{Node}
-use Rattle.model.specs.Nodes.{nodeAt, directOf, used, isOpen, withDirect, withTotal}
+use Rattle.model.specs.Nodes.{nodeAt, directOf, used, withDirect, withTotal}
 use Rattle.tree.specs.WellFormed.{Used, Opens, up, WellFormed}
 use Rattle.tree.specs.Paths.{Over, here, step}
 use Rattle.tree.proofs.WellFormed.{open-used, used-small}
@@ -23,6 +23,7 @@ use Rattle.model.specs.declared.Model.{Model}
 use Rattle.model.specs.Places.{depth}
 use Rattle.totals.proofs.Moves.{moved-above, kept-else, moved-long}
 use Rattle.edits.specs.Growing.{grownNode, raised, Raisable}
+use Rattle.edits.proofs.InPlace.{bare-put}
 
 over-same : (ns ms : List Node) → ((i : ℕ) → up ns i ≡ up ms i) → (j k : ℕ) → Over ns j k → Over ms j k
 over-same ns ms h j k (here e) = here e
@@ -132,13 +133,12 @@ module _ (ns : List Node) (k count : ℕ) (R : Raisable ns k count) where
 
   pub raised-bare : Bare (set ns k grown) (raised ns k count)
   raised-bare = record {
-    size = length-set ns k grown ∙ sym (length-set ns k (grownNode count (nodeAt ns k))) ∙ sym (moved-long stored stored-well true more k stored-used);
-    node = λ j. first j (ℕ-discrete j k) ∙ then j (dec-above stored stored-well k stored-open j);
+    size = put .size ∙ sym (moved-long stored stored-well true more k stored-used);
+    node = λ j. put .node j ∙ then j (dec-above stored stored-well k stored-open j);
   }
     where
-      first : (j : ℕ) → Dec (j ≡ k) → bare (nodeAt (set ns k grown) j) ≡ bare (nodeAt stored j)
-      first j (yes e) = rw e (ap bare (put-same ns w k grown grown-own) ∙ sym (ap bare stored-same))
-      first j (no d) = ap bare (put-other ns w k grown grown-own j d) ∙ sym (ap bare (stored-other j d))
+      put : Bare (set ns k grown) stored
+      put = bare-put ns k grown (grownNode count (nodeAt ns k)) refl
 
       then : (j : ℕ) → Dec (Above stored j k) → bare (nodeAt stored j) ≡ bare (nodeAt (raised ns k count) j)
       then j (yes a) = ap bare (stored-other j (above-other j a)) ∙ sym (ap bare (moved j a))

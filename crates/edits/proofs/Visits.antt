@@ -1,17 +1,16 @@
 -- The steps of a visit in place, by whether the node is open and whether its item is ongoing.
-use Prim.Native.Nat.{ℕ, zero, suc, _+_, _-_, _≤_, _<_}
+use Prim.Native.Nat.{ℕ, zero, suc, _-_, _<_}
 use native.Mathlib.Omega.{arith}
-use mathlib.Core.Path.{_≡_, refl, sym, ap, subst, _∙_}
+use mathlib.Core.Path.{_≡_, refl, sym, ap, _∙_}
 use mathlib.Core.Bool.{Bool, true, false, cond, _&&_, _||_}
 use mathlib.Core.List.{List}
 use lib.ListN.{set}
-use lib.Seq.{getD-set-same, set-getD, set-set}
+use lib.Seq.{set-getD, set-set}
 use Rattle.lists.proofs.Bools.{differ}
 use Rattle.model.specs.declared.Node.{Node}
 use Rattle.model.specs.declared.Model.{Model}
-use Rattle.model.specs.Places.{rowLimit}
 use Rattle.model.specs.Nodes.{noNode, nodeAt, directOf, used, isOpen, withVersion, withDirect, withOngoing, withTotal, orNone}
-use Rattle.model.specs.Rows.{rowTotal, totalOf}
+use Rattle.model.specs.Rows.{totalOf}
 use Rattle.model.specs.Settle.{settle}
 use Rattle.tree.specs.WellFormed.{Used, Opens, WellFormed}
 use Rattle.tree.proofs.WellFormed.{open-used, zero-open, used-small}

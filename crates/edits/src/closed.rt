@@ -3,6 +3,7 @@ use model::Model;
 use model::Node;
 use model::RegionAt;
 use model::RowNumber;
+use nodes::no_node;
 ghost use mathlib.Core.Path.{_≡_};
 ghost use mathlib.Core.Bool.{false, cond};
 ghost use lib.Dec.{eqb};
@@ -15,21 +16,6 @@ ghost use Rattle.runs.specs.Laid.{laid};
 ghost use Rattle.steps.specs.Changes.{closedAt};
 ghost use Rattle.steps.specs.Settled.{Sound, withNodes};
 ghost use Rattle.edits.specs.Closable.{Closable};
-
-fn no_node() -> Node
-    ensures { λ r. ⌜ r ≡ noNode ⌝ }
-{
-    Node {
-        parent: 0,
-        index: 0,
-        entry: 0,
-        direct: 0,
-        total: 0,
-        version: 0,
-        open: false,
-        ongoing: false,
-    }
-}
 
 // The node closed: it stays only if it is ongoing.
 fn shut_node(n: Node) -> Node
@@ -85,6 +71,7 @@ fn remove_children(m: Model, node: u64) -> Model
     regions::collapse(m, place)
 }
 
+// Closes such a node in place: the totals above it and the published count lose its rows too.
 pub fn close_node(m: Model, node: u64) -> Model
     requires { ⌜ Sound m ⌝ }
     requires { ⌜ Closable (m .nodes) node ⌝ }

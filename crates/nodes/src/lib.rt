@@ -6,7 +6,23 @@ use model::Model;
 use model::Node;
 ghost use mathlib.Core.Path.{_≡_};
 ghost use mathlib.Core.Bool.{_&&_};
-ghost use Rattle.model.specs.Nodes.{isOpen, used, standsAt, child, openChild, free};
+ghost use Rattle.model.specs.Nodes.{noNode, isOpen, used, standsAt, child, openChild, free};
+
+// What a place holds that is not in use.
+pub fn no_node() -> Node
+    ensures { λ r. ⌜ r ≡ noNode ⌝ }
+{
+    Node {
+        parent: 0,
+        index: 0,
+        entry: 0,
+        direct: 0,
+        total: 0,
+        version: 0,
+        open: false,
+        ongoing: false,
+    }
+}
 
 // A node is in use while it is open or ongoing.
 pub fn in_use(n: Node) -> bool

@@ -17,3 +17,4 @@ pub mod ClosingAll
 pub mod Visits
 pub mod Lengths
 pub mod Results
+pub mod SoundRegions

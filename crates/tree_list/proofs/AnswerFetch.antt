@@ -25,7 +25,7 @@ use Rattle.steps.proofs.Put.{free-unused}
 use Rattle.steps.proofs.Quiet.{quiet-followed}
 use Rattle.steps.proofs.Settling.{sound-of}
 use Rattle.tree_list.specs.Following.{Followable}
-use Rattle.tree_list.proofs.InPlace.{quiet-in-place, put-totals}
+use Rattle.edits.proofs.InPlace.{quiet-in-place, put-totals}
 use Rattle.model.proofs.Search.{child-found}
 use Rattle.tree.proofs.WellFormed.{used-small, open-used}
 use Rattle.tree.specs.Paths.{Shows}

@@ -1,41 +1,38 @@
--- Open, by its refusals; its log; the row's node put in place.
+-- Open, by its refusals; a row that shows can be opened, unless that is refused.
 use Prim.Native.Nat.{ℕ, zero, suc, _+_, _-_, _^_, _≤_, _<_}
 use native.Mathlib.Omega.{arith}
 use mathlib.Core.Path.{_≡_, refl, sym, ap, _∙_, subst}
 use mathlib.Core.Logic.{_≢_}
 use mathlib.Core.Bool.{true, false}
 use mathlib.Core.List.{List, [], _∷_}
-use lib.ListN.{set, replicate}
+use lib.ListN.{set}
 use borrow.Author.Tests.{le-leb, lt-leb, ne-eqb, lt-ltb, le-ltb}
 use Rattle.model.specs.declared.Node.{Node}
 use Rattle.model.specs.declared.Model.{Model}
 use Rattle.model.specs.declared.ChildIndex.{ChildIndex}
 use Rattle.model.specs.declared.ChangeAnswer.{ChangeAnswer}
-use Rattle.model.specs.declared.Record.{Record}
-use Rattle.model.specs.declared.Log.{Log}
 use Rattle.model.specs.declared.RegionAt.the-variants.{At}
-use Rattle.model.specs.Places.{logPlaces, pad, rowLimit}
+use Rattle.model.specs.Places.{rowLimit}
 use Rattle.model.specs.Table.{readable}
 use Rattle.model.specs.Nodes.{nodeAt, used, isOpen, child, free, withOpen}
-use Rattle.model.specs.Rows.{Row, rowTotal, rowAt}
+use Rattle.model.specs.Rows.{rowTotal, rowAt}
 use Rattle.model.specs.Settle.{settle}
 use Rattle.model.specs.Sound.{sound}
-use Rattle.model.specs.Logs.{noRecord, rowsChange, logOf}
+use Rattle.model.specs.Logs.{rowsChange}
 use Rattle.model.specs.Answers.{noChange}
 use Rattle.model.specs.Fetch.{fresh, nodeOrFresh}
 use Rattle.model.specs.Open.{changed, numberOrFree, openNode, openRow, answerOpen}
 use Rattle.runs.specs.Search.{regionAt}
 use Rattle.runs.specs.Laid.{live}
-use Rattle.runs.proofs.Edits.{pad-is, add-pad}
 use Rattle.steps.specs.Changes.{Put}
 use Rattle.steps.proofs.Opening.{open-put}
 use Rattle.steps.proofs.Settling.{sound-of, sound-given}
 use Rattle.model.proofs.Search.{child-found}
-use Rattle.tree.specs.Paths.{Shows}
 use Rattle.tree.proofs.Rows.{total-shut}
 use Rattle.edits.specs.Openable.{Openable}
 use Rattle.tree_list.specs.OpenedRow.{CanOpen}
-use Rattle.tree_list.proofs.SoundRows.{row-there, found-inside}
+use Rattle.tree_list.proofs.SoundRows.{row-there}
+use Rattle.steps.proofs.SoundRegions.{found-inside}
 
 module _ (t : List ℕ) (m : Model) (r : ℕ) where
   pub open-unsound : sound m ≡ false → answerOpen t m r ≡ noChange 1 m
@@ -102,7 +99,6 @@ module _ (m : Model) (r : ℕ) (n : Node) (j : ℕ) where
             rw (c, ne-eqb (n .direct) 0 d, ne-eqb j 0 some, le-ltb rowLimit (rowTotal (m .nodes) + n .direct) (open-fits s h))
             (b ∙ ap (λ (x : Model). changed x (rowsChange (suc r) 0 (n .direct) ∷ [])) (g ∙ ap (λ (i : ℕ). settle (set (m .nodes) i (withOpen true n))) e))
 
--- a row that shows can be opened, unless that is refused
 module _ (t : List ℕ) (m : Model) (s : sound m ≡ true) (place r p i : ℕ) (e : rowAt (m .nodes) r ≡ (p, i)) (h : regionAt (live m) r ≡ At place) where
   -- a closed row's total is its count
   total-direct : (k : ℕ) → child (m .nodes) p i ≡ k → let n = nodeOrFresh t (m .nodes) (p, i) k in isOpen n ≡ false → n .total ≡ n .direct
@@ -152,12 +148,3 @@ number-some m (suc k) d = refl
 
 pub published-limit : (m : Model) → sound m ≡ true → m .published ≤ rowLimit
 published-limit m s = let S = sound-of m s in omega (arith, sound-given m S .published, S .limit)
-
--- no record, and one, laid into the log's places
-pub log-none : (x : Record) → x ≡ noRecord → _≡_ {A = Log} (record { records = replicate logPlaces x; len = 0 }) (logOf [])
-unfolding logOf
-log-none x e = λ z. record { records = (ap (replicate logPlaces) e ∙ sym (pad-is logPlaces noRecord [] logPlaces (omega arith))) z; len = 0 }
-
-pub log-one : (l : Log) (x : Record) → l ≡ logOf [] → _≡_ {A = Log} (record { records = set (l .records) 0 x; len = 1 }) (logOf (x ∷ []))
-unfolding logOf
-log-one l x e = λ z. record { records = (ap (λ (a : Log). set (a .records) 0 x) e ∙ add-pad logPlaces noRecord [] (omega arith) x (omega arith)) z; len = 1 }

@@ -13,7 +13,7 @@ use Rattle.model.specs.Release.{releaseNode, answerRelease}
 use Rattle.steps.specs.Settled.{withNodes}
 use Rattle.steps.proofs.Settling.{sound-of}
 use Rattle.steps.proofs.Quiet.{quiet-freed}
-use Rattle.tree_list.proofs.InPlace.{quiet-in-place, freed-totals}
+use Rattle.edits.proofs.InPlace.{quiet-in-place, freed-totals}
 
 module _ (m : Model) (r : ℕ) where
   pub release-unsound : sound m ≡ false → answerRelease m r ≡ justModel 1 m

@@ -1,7 +1,6 @@
 -- Laws that the operations' proofs apply.
 pub mod Records
 pub mod SoundRows
-pub mod InPlace
 pub mod AnswerNew
 pub mod AnswerCount
 pub mod AnswerRelease

@@ -2,28 +2,12 @@
 use model::ChildIndex;
 use model::FetchedRow;
 use model::Model;
-use model::Node;
 use model::Region;
+use nodes::no_node;
 ghost use mathlib.Core.Path.{_≡_};
-ghost use Rattle.model.specs.Nodes.{noNode};
 ghost use Rattle.model.specs.Regions.{noRegion};
 ghost use Rattle.model.specs.Answers.{noRow};
 ghost use Rattle.model.specs.New.{zeros};
-
-pub fn no_node() -> Node
-    ensures { λ r. ⌜ r ≡ noNode ⌝ }
-{
-    Node {
-        parent: 0,
-        index: 0,
-        entry: 0,
-        direct: 0,
-        total: 0,
-        version: 0,
-        open: false,
-        ongoing: false,
-    }
-}
 
 pub fn no_region() -> Region
     ensures { λ r. ⌜ r ≡ noRegion ⌝ }

@@ -1,12 +1,12 @@
 // Release: a closed row is followed no longer.
 use crate::answers::just_model;
-use crate::blank::no_node;
 use crate::rows::index_of;
 use crate::rows::parent_of;
 use model::Model;
 use model::ModelAnswer;
 use model::RegionAt;
 use model::RowNumber;
+use nodes::no_node;
 ghost use mathlib.Core.Path.{_≡_};
 ghost use mathlib.Core.Bool.{true};
 ghost use Prim.Native.Nat.{_<_};

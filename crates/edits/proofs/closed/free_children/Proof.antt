@@ -7,9 +7,6 @@ use borrow.Author.Needs.{needs}
 use native.Mathlib.Omega.{arith}
 use Rattle.edits.proofs.closed.free_children.Statement.{statement}
 use Rattle.edits.proofs.closed.free_children.Tie as tie
-use Rattle.edits.proofs.closed.free_children.Reads as reads
-use Rattle.edits.proofs.closed.free_children.Lts as lts
-use Rattle.edits.proofs.closed.unless_child.Reads as unless-child-reads
 
 abbrev Inv-loop : tie.InvT-loop
 Inv-loop node q₀ i₀ q i = (i ≤ 256) × (q ≡ withNodes q₀ (freedTo node (q₀ .nodes) i))
@@ -17,39 +14,30 @@ Inv-loop node q₀ i₀ q i = (i ≤ 256) × (q ≡ withNodes q₀ (freedTo node
 abbrev μ-loop : tie.MeasureT-loop
 μ-loop node q₀ i₀ q i = 256 - i
 
--- src/closed.rt:67:5
 loop-holds : tie.Need-loop-holds Inv-loop μ-loop
 loop-holds c = (omega arith, ap (withNodes (c .args .m)) (freed-none (c .args .node) (c .args .m .nodes)))
 
--- src/closed.rt:68:17
 mul-n : tie.Need-mul-n Inv-loop μ-loop
 mul-n c = search needs
 
--- src/closed.rt:68:17
 element-copy-out-n : tie.Need-element-copy-out-n Inv-loop μ-loop
 element-copy-out-n c = search needs
 
--- src/closed.rt:69:22
 unless-child-requires : tie.Need-unless-child-requires Inv-loop μ-loop
 unless-child-requires c κs = search needs
 
--- src/closed.rt:69:9
 mul-t7 : tie.Need-mul-t7 Inv-loop μ-loop
 mul-t7 c = search needs
 
--- src/closed.rt:69:9
 element-set-from-q : tie.Need-element-set-from-q Inv-loop μ-loop
 element-set-from-q c = search needs
 
--- src/closed.rt:70:9
 add-i : tie.Need-add-i Inv-loop μ-loop
 add-i c = search needs
 
--- src/closed.rt:67:5
 loop-less : tie.Need-loop-less Inv-loop μ-loop
 loop-less c = search needs
 
--- src/closed.rt:67:5
 loop-again : tie.Need-loop-again Inv-loop μ-loop
 loop-again c =
     let s = c .before .before .before .before in
@@ -57,7 +45,6 @@ loop-again c =
     let long = nodes-long (s .args .m) _ (s .good .0) in
     (omega arith, free-turn (s .args .node) (s .args .m) (l .q) (l .i) (c .unless-child .result) (omega arith) (l .inv .1) (c .unless-child .ensures))
 
--- src/closed.rt:62:1
 returns : tie.Need-returns Inv-loop μ-loop
 returns c =
     let s = c .before .before in

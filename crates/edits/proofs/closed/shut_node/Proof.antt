@@ -1,21 +1,14 @@
 use Rattle.edits.proofs.Freeing.{shut-ongoing, shut-complete}
-use native.Mathlib.Omega.{arith}
 use borrow.Author.Needs.{needs}
 use Rattle.edits.proofs.closed.shut_node.Statement.{statement}
 use Rattle.edits.proofs.closed.shut_node.Tie as tie
-use Rattle.edits.proofs.closed.shut_node.Reads as reads
-use Rattle.edits.proofs.closed.shut_node.Lts as lts
-use Rattle.edits.proofs.closed.no_node.Reads as no-node-reads
 
--- src/closed.rt:39:9
 no-node-requires : tie.Need-no-node-requires
 no-node-requires c κs = search needs
 
--- src/closed.rt:36:1
 returns : tie.Need-returns
 returns c = shut-ongoing (c .before .before .args .n) (c .if1 .taken)
 
--- src/closed.rt:36:1
 returns-2 : tie.Need-returns-2
 returns-2 c = shut-complete (c .before .before .args .n) _ (c .if1 .left) (c .before .no-node .ensures)
 

@@ -1,21 +1,14 @@
 use Rattle.edits.proofs.Freeing.{child-freed, other-kept}
-use native.Mathlib.Omega.{arith}
 use borrow.Author.Needs.{needs}
 use Rattle.edits.proofs.closed.unless_child.Statement.{statement}
 use Rattle.edits.proofs.closed.unless_child.Tie as tie
-use Rattle.edits.proofs.closed.unless_child.Reads as reads
-use Rattle.edits.proofs.closed.unless_child.Lts as lts
-use Rattle.edits.proofs.closed.no_node.Reads as no-node-reads
 
--- src/closed.rt:57:9
 no-node-requires : tie.Need-no-node-requires
 no-node-requires c κs = search needs
 
--- src/closed.rt:54:1
 returns : tie.Need-returns
 returns c = child-freed (c .before .before .before .args .n) _ (c .before .before .before .args .parent) (c .if1 .taken) (c .before .before .no-node .ensures)
 
--- src/closed.rt:54:1
 returns-2 : tie.Need-returns-2
 returns-2 c = other-kept (c .before .before .before .args .n) (c .before .before .before .args .parent) (c .if1 .left)
 

@@ -1,39 +1,26 @@
-use mathlib.Core.Path.{sym, ap, _∙_}
 use Rattle.edits.proofs.Growing.{node-small, placed-raisable, published-fits, grown-model}
 use native.Mathlib.Omega.{arith}
-use borrow.Author.Needs.{needs}
 use Rattle.edits.proofs.grown.grow_node.Statement.{statement}
 use Rattle.edits.proofs.grown.grow_node.Tie as tie
-use Rattle.edits.proofs.grown.grow_node.Reads as reads
-use Rattle.edits.proofs.grown.grow_node.Lts as lts
-use Rattle.edits.proofs.grown.grow_regions.Reads as grow-regions-reads
-use Rattle.edits.proofs.grown.raise_totals.Reads as raise-totals-reads
 
--- src/grown.rt:84:25
 mul-added : tie.Need-mul-added
 mul-added c = omega (arith, node-small (c .args .t1) (c .args .k) (c .args .count) (c .pre))
 
--- src/grown.rt:84:25
 element-copy-out-added : tie.Need-element-copy-out-added
 element-copy-out-added c = node-small (c .args .t1) (c .args .k) (c .args .count) (c .pre)
 
--- src/grown.rt:84:17
 sub-added : tie.Need-sub-added
 sub-added c = omega (arith, c .pre .more)
 
--- src/grown.rt:85:9
 grow-regions-requires : tie.Need-grow-regions-requires
 grow-regions-requires c κs = c .pre
 
--- src/grown.rt:86:9
 raise-totals-requires : tie.Need-raise-totals-requires
 raise-totals-requires c κs = let s = c .before in placed-raisable (s .args .t1) (s .args .k) (s .args .count) (s .pre) (c .grow-regions .result) (c .grow-regions .result) (c .grow-regions .ensures)
 
--- src/grown.rt:87:19
 add-q : tie.Need-add-q
 add-q c = let s = c .before .before in omega (arith, published-fits (s .args .t1) (s .args .k) (s .args .count) (s .pre))
 
--- src/grown.rt:80:1
 returns : tie.Need-returns
 returns c =
     let s = c .before .before in

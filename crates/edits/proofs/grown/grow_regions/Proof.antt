@@ -6,36 +6,24 @@ use Rattle.runs.specs.Changes.{joined, grown}
 use Rattle.runs.specs.Laid.{live, laid}
 use Rattle.edits.proofs.Growing.{sound-laid, sound-tiled, sound-few, node-small, room, regions-after}
 use native.Mathlib.Omega.{arith}
-use borrow.Author.Needs.{needs}
 use Rattle.edits.proofs.grown.grow_regions.Statement.{statement}
 use Rattle.edits.proofs.grown.grow_regions.Tie as tie
-use Rattle.edits.proofs.grown.grow_regions.Reads as reads
-use Rattle.edits.proofs.grown.grow_regions.Lts as lts
-use Rattle.edits.proofs.grown.end_of.Reads as end-of-reads
-use Rattle.edits.proofs.grown.place_after.Reads as place-after-reads
-use Rattle.regions.proofs.grow.Reads as grow-reads
 
--- src/grown.rt:51:9
 place-after-requires : tie.Need-place-after-requires
 place-after-requires c κs = (c .pre .sound, c .pre .opens)
 
--- src/grown.rt:52:9
 end-of-requires : tie.Need-end-of-requires
 end-of-requires c κs = (c .before .pre .sound, c .before .pre .opens)
 
--- src/grown.rt:53:16
 mul-from : tie.Need-mul-from
 mul-from c = let s = c .before .before in omega (arith, node-small (s .args .t1) (s .args .k) (s .args .count) (s .pre))
 
--- src/grown.rt:53:9
 element-copy-out-from : tie.Need-element-copy-out-from
 element-copy-out-from c = let s = c .before .before in node-small (s .args .t1) (s .args .k) (s .args .count) (s .pre)
 
--- src/grown.rt:54:55
 sub-grow : tie.Need-sub-grow
 sub-grow c = let s = c .before .before in omega (arith, s .pre .more)
 
--- src/grown.rt:54:5
 grow-requires : tie.Need-grow-requires
 grow-requires c κs =
     let s = c .before .before in
@@ -45,7 +33,6 @@ grow-requires c κs =
       (sound-tiled (s .args .t1) (s .pre .sound), ((p .0, p .1 ∙ sym e), (sound-few (s .args .t1) (s .pre .sound), room (s .args .t1) (s .args .k) (s .args .count) (s .pre)))),
     )
 
--- src/grown.rt:47:1
 returns : tie.Need-returns
 returns c =
     let s = c .before .before .before in

@@ -3,39 +3,28 @@ use Rattle.model.specs.declared.RowNumber.{RowNumber}
 use Rattle.runs.specs.Search.{regionAt}
 use Rattle.runs.specs.Laid.{live}
 use Rattle.edits.proofs.Growing.{sound-laid, sound-tiled, end-found, end-none}
-use native.Mathlib.Omega.{arith}
 use borrow.Author.Needs.{needs}
 use Rattle.edits.proofs.grown.place_after.Statement.{statement}
 use Rattle.edits.proofs.grown.place_after.Tie as tie
-use Rattle.edits.proofs.grown.place_after.Reads as reads
-use Rattle.edits.proofs.grown.place_after.Lts as lts
-use Rattle.edits.proofs.grown.end_of.Reads as end-of-reads
-use Rattle.regions.proofs.find_region.Reads as find-region-reads
 
--- src/grown.rt:40:55
 end-of-requires : tie.Need-end-of-requires
 end-of-requires c κs = c .pre
 
--- src/grown.rt:40:31
 find-region-requires : tie.Need-find-region-requires
 find-region-requires c κs = (sound-laid (c .before .args .m) (c .before .pre .0), sound-tiled (c .before .args .m) (c .before .pre .0))
 
--- src/grown.rt:40:22
 enum-known-place : tie.Need-enum-known-place
 enum-known-place c = search needs
 
--- src/grown.rt:41:9
 enum-told : tie.Need-enum-told
 enum-told c = search needs
 
--- src/grown.rt:41:9
 returns : tie.Need-returns
 returns c =
     let s = c .before .before .before .before in
     let e = ap (λ (x : RowNumber). regionAt (live (s .args .m)) (x .0)) (c .before .before .before .end-of .ensures) in
     end-none (s .args .m) (s .pre .0) (s .args .k) (s .pre .1) (sym e ∙ sym (c .before .before .find-region .ensures) ∙ c .enum-told .given .1)
 
--- src/grown.rt:35:1
 returns-2 : tie.Need-returns-2
 returns-2 c =
     let s = c .before .before .before .before .before in

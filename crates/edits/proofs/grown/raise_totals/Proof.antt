@@ -1,54 +1,36 @@
-use mathlib.Core.Path.{_≡_, sym, ap, _∙_}
-use lib.ListN.{set}
-use Rattle.model.specs.declared.Node.{Node}
-use Rattle.steps.specs.Settled.{withNodes}
+use mathlib.Core.Path.{_∙_}
 use Rattle.edits.proofs.Raising.{raise-requires, raise-small, raise-returns}
 use native.Mathlib.Omega.{arith}
-use borrow.Author.Needs.{needs}
 use Rattle.edits.proofs.grown.raise_totals.Statement.{statement}
 use Rattle.edits.proofs.grown.raise_totals.Tie as tie
-use Rattle.edits.proofs.grown.raise_totals.Reads as reads
-use Rattle.edits.proofs.grown.raise_totals.Lts as lts
-use Rattle.edits.proofs.grown.grown_node.Reads as grown-node-reads
-use Rattle.totals.proofs.update_total.Reads as update-total-reads
 
--- src/grown.rt:73:25
 mul-added : tie.Need-mul-added
 mul-added c = omega (arith, raise-small (c .args .t1 .nodes) (c .args .k) (c .args .count) (c .pre))
 
--- src/grown.rt:73:25
 element-copy-out-added : tie.Need-element-copy-out-added
 element-copy-out-added c = raise-small (c .args .t1 .nodes) (c .args .k) (c .args .count) (c .pre)
 
--- src/grown.rt:73:17
 sub-added : tie.Need-sub-added
 sub-added c = omega (arith, c .pre .more)
 
--- src/grown.rt:75:38
 mul-grown-node : tie.Need-mul-grown-node
 mul-grown-node c = omega (arith, raise-small (c .args .t1 .nodes) (c .args .k) (c .args .count) (c .pre))
 
--- src/grown.rt:75:38
 element-copy-out-grown-node : tie.Need-element-copy-out-grown-node
 element-copy-out-grown-node c = raise-small (c .args .t1 .nodes) (c .args .k) (c .args .count) (c .pre)
 
--- src/grown.rt:75:27
 grown-node-requires : tie.Need-grown-node-requires
 grown-node-requires c κs = let s = c .before in ((omega (arith, s .pre .more)), s .pre .fits (s .args .k) (s .pre .opens))
 
--- src/grown.rt:75:5
 mul-t18 : tie.Need-mul-t18
 mul-t18 c = let s = c .before .before in omega (arith, raise-small (s .args .t1 .nodes) (s .args .k) (s .args .count) (s .pre))
 
--- src/grown.rt:75:5
 element-set-from-q : tie.Need-element-set-from-q
 element-set-from-q c = let s = c .before .before in raise-small (s .args .t1 .nodes) (s .args .k) (s .args .count) (s .pre)
 
--- src/grown.rt:76:5
 update-total-requires : tie.Need-update-total-requires
 update-total-requires c κs = let s = c .before .before in raise-requires (s .args .t1 .nodes) (s .args .k) (s .args .count) (s .pre) (c .grown-node .result) (c .grown-node .ensures)
 
--- src/grown.rt:69:1
 returns : tie.Need-returns
 returns c =
     let s = c .before .before .before in

@@ -1,6 +1,5 @@
 use Rattle.model.proofs.Arrays.{node-fits}
 use Rattle.edits.proofs.Opening.{update-asks, published-fits, expand-asks, open-settled}
-use native.Mathlib.Omega.{arith}
 use borrow.Author.Needs.{needs}
 use Rattle.edits.proofs.opened.open_node.Statement.{statement}
 use Rattle.edits.proofs.opened.open_node.Tie as tie

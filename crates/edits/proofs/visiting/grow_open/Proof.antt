@@ -1,29 +1,20 @@
 use Rattle.edits.proofs.Visits.{used-place, same-settles, visit-growable}
 use native.Mathlib.Omega.{arith}
-use borrow.Author.Needs.{needs}
 use Rattle.edits.proofs.visiting.grow_open.Statement.{statement}
 use Rattle.edits.proofs.visiting.grow_open.Tie as tie
-use Rattle.edits.proofs.visiting.grow_open.Reads as reads
-use Rattle.edits.proofs.visiting.grow_open.Lts as lts
-use Rattle.edits.proofs.grown.grow_node.Reads as grow-node-reads
 
--- src/visiting.rt:44:17
 mul-if1 : tie.Need-mul-if1
 mul-if1 c = omega (arith, used-place (c .args .t1) (c .pre .0 .sound) (c .args .k) (c .pre .0 .live))
 
--- src/visiting.rt:44:17
 element-copy-out-if1 : tie.Need-element-copy-out-if1
 element-copy-out-if1 c = used-place (c .args .t1) (c .pre .0 .sound) (c .args .k) (c .pre .0 .live)
 
--- src/visiting.rt:45:9
 returns : tie.Need-returns
 returns c = let s = c .before in same-settles (s .args .t1) (s .pre .0 .sound) (s .args .k) (s .args .count) (c .if1 .taken)
 
--- src/visiting.rt:47:5
 grow-node-requires : tie.Need-grow-node-requires
 grow-node-requires c κs = let s = c .before in visit-growable (s .args .t1) (s .args .k) (s .args .count) (s .pre .0) (s .pre .1) (c .if1 .left)
 
--- src/visiting.rt:39:1
 returns-2 : tie.Need-returns-2
 returns-2 c = c .grow-node .ensures
 

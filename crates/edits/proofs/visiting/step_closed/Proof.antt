@@ -1,45 +1,32 @@
 use Rattle.edits.proofs.Visits.{used-place, still-closed, freed}
 use native.Mathlib.Omega.{arith}
-use borrow.Author.Needs.{needs}
 use Rattle.edits.proofs.visiting.step_closed.Statement.{statement}
 use Rattle.edits.proofs.visiting.step_closed.Tie as tie
-use Rattle.edits.proofs.visiting.step_closed.Reads as reads
-use Rattle.edits.proofs.visiting.step_closed.Lts as lts
-use Rattle.edits.proofs.visiting.counted.Reads as counted-reads
 
--- src/visiting.rt:80:39
 mul-counted : tie.Need-mul-counted
 mul-counted c = let s = c .before in omega (arith, used-place (s .args .t1) (s .pre .0 .sound) (s .args .k) (s .pre .0 .live))
 
--- src/visiting.rt:80:39
 element-copy-out-counted : tie.Need-element-copy-out-counted
 element-copy-out-counted c = let s = c .before in used-place (s .args .t1) (s .pre .0 .sound) (s .args .k) (s .pre .0 .live)
 
--- src/visiting.rt:80:31
 counted-requires : tie.Need-counted-requires
 counted-requires c κs = tt
 
--- src/visiting.rt:80:9
 mul-t16 : tie.Need-mul-t16
 mul-t16 c = let s = c .before .before .before in omega (arith, used-place (s .args .t1) (s .pre .0 .sound) (s .args .k) (s .pre .0 .live))
 
--- src/visiting.rt:80:9
 element-set-from-q : tie.Need-element-set-from-q
 element-set-from-q c = let s = c .before .before .before in used-place (s .args .t1) (s .pre .0 .sound) (s .args .k) (s .pre .0 .live)
 
--- src/visiting.rt:81:9
 returns : tie.Need-returns
 returns c = let s = c .before .before .before in still-closed (s .args .t1) (s .args .k) (s .args .count) (s .pre .0) (s .pre .1) (s .args .ongoing) (c .before .before .if1 .taken) (c .counted .result) (c .counted .ensures)
 
--- src/visiting.rt:83:5
 mul-t21 : tie.Need-mul-t21
 mul-t21 c = let s = c .before in omega (arith, used-place (s .args .t1) (s .pre .0 .sound) (s .args .k) (s .pre .0 .live))
 
--- src/visiting.rt:83:5
 element-set-from-q-2 : tie.Need-element-set-from-q-2
 element-set-from-q-2 c = let s = c .before in used-place (s .args .t1) (s .pre .0 .sound) (s .args .k) (s .pre .0 .live)
 
--- src/visiting.rt:73:1
 returns-2 : tie.Need-returns-2
 returns-2 c = let s = c .before in freed (s .args .t1) (s .args .k) (s .args .count) (s .pre .0) (s .pre .1) (s .args .ongoing) (c .if1 .left)
 

@@ -1,27 +1,17 @@
 use mathlib.Core.Path.{_∙_}
 use Rattle.edits.proofs.Visits.{grown-ready, still-open, complete-open}
-use native.Mathlib.Omega.{arith}
-use borrow.Author.Needs.{needs}
 use Rattle.edits.proofs.visiting.step_open.Statement.{statement}
 use Rattle.edits.proofs.visiting.step_open.Tie as tie
-use Rattle.edits.proofs.visiting.step_open.Reads as reads
-use Rattle.edits.proofs.visiting.step_open.Lts as lts
-use Rattle.edits.proofs.visiting.complete.Reads as complete-reads
-use Rattle.edits.proofs.visiting.grow_open.Reads as grow-open-reads
 
--- src/visiting.rt:55:9
 grow-open-requires : tie.Need-grow-open-requires
 grow-open-requires c κs = c .pre
 
--- src/visiting.rt:57:9
 returns : tie.Need-returns
 returns c = let s = c .before .before in c .before .grow-open .ensures ∙ still-open (s .args .m) (s .args .k) (s .args .count) (s .pre .0) (s .pre .1) (s .args .ongoing) (c .if1 .taken)
 
--- src/visiting.rt:59:5
 complete-requires : tie.Need-complete-requires
 complete-requires c κs = let s = c .before .before in grown-ready (s .args .m) (s .args .k) (s .args .count) (s .pre .0) (s .pre .1) (c .before .grow-open .result) (c .before .grow-open .ensures)
 
--- src/visiting.rt:50:1
 returns-2 : tie.Need-returns-2
 returns-2 c =
     let s = c .before .before .before in

@@ -2,7 +2,8 @@ use mathlib.Core.Path.{sym, _∙_}
 use borrow.Author.Tests.{not-true, not-false}
 use Rattle.model.specs.Nodes.{noNode}
 use Rattle.steps.proofs.Settling.{sound-of}
-use Rattle.tree_list.proofs.SoundRows.{sound-laid, sound-tiled, row-none, row-there, child-small, found-inside}
+use Rattle.tree_list.proofs.SoundRows.{row-there, child-small}
+use Rattle.steps.proofs.SoundRegions.{sound-laid, sound-tiled, row-none, found-inside}
 use Rattle.tree_list.proofs.AnswerFetch.{fetch-unsound, fetch-unreadable, fetch-past, fetch-row, fetch-answer, row-shown, parent-small, node-parent, node-followable}
 use borrow.Author.Needs.{needs}
 use Rattle.tree_list.proofs.fetching.fetch.Statement.{statement}

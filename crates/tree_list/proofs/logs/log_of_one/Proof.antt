@@ -1,4 +1,4 @@
-use Rattle.tree_list.proofs.AnswerOpen.{log-one}
+use Rattle.tree_list.proofs.Records.{log-one}
 use borrow.Author.Needs.{needs}
 use Rattle.tree_list.proofs.logs.log_of_one.Statement.{statement}
 use Rattle.tree_list.proofs.logs.log_of_one.Tie as tie

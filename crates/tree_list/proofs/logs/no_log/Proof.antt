@@ -1,4 +1,4 @@
-use Rattle.tree_list.proofs.AnswerOpen.{log-none}
+use Rattle.tree_list.proofs.Records.{log-none}
 use borrow.Author.Needs.{needs}
 use Rattle.tree_list.proofs.logs.no_log.Statement.{statement}
 use Rattle.tree_list.proofs.logs.no_log.Tie as tie

@@ -2,7 +2,8 @@ use mathlib.Core.Path.{sym, _∙_}
 use borrow.Author.Tests.{not-true, not-false}
 use Rattle.model.specs.Nodes.{noNode}
 use Rattle.steps.proofs.Settling.{sound-of}
-use Rattle.tree_list.proofs.SoundRows.{sound-laid, sound-tiled, row-none, row-there, child-small, found-inside}
+use Rattle.tree_list.proofs.SoundRows.{row-there, child-small}
+use Rattle.steps.proofs.SoundRegions.{sound-laid, sound-tiled, row-none, found-inside}
 use Rattle.tree_list.proofs.AnswerFetch.{row-shown, parent-small}
 use Rattle.tree_list.proofs.AnswerOpen.{open-unsound, open-unreadable, open-past, open-row, open-answer, can-open}
 use borrow.Author.Needs.{needs}

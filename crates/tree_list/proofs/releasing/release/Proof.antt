@@ -2,7 +2,8 @@ use mathlib.Core.Path.{sym, ap, _∙_}
 use Rattle.model.specs.Release.{releaseNode}
 use borrow.Author.Tests.{not-true, not-false}
 use Rattle.steps.proofs.Settling.{sound-of}
-use Rattle.tree_list.proofs.SoundRows.{sound-laid, sound-tiled, row-none, child-small, row-child, found-inside}
+use Rattle.tree_list.proofs.SoundRows.{child-small, row-child}
+use Rattle.steps.proofs.SoundRegions.{sound-laid, sound-tiled, row-none, found-inside}
 use Rattle.tree_list.proofs.AnswerRelease.{release-unsound, release-past, release-row}
 use borrow.Author.Needs.{needs}
 use Rattle.tree_list.proofs.releasing.release.Statement.{statement}

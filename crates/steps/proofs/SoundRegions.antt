@@ -1,5 +1,5 @@
--- A sound model's regions, whatever its nodes are changed to.
-use Prim.Native.Nat.{ℕ, zero, suc, _+_, _-_, _^_, _≤_, _<_}
+-- A sound model's regions: they are laid into its places, tile its rows and find each row's parent and index, whatever its nodes are then changed to.
+use Prim.Native.Nat.{ℕ, suc, _+_, _-_, _≤_, _<_}
 use native.Mathlib.Omega.{arith}
 use mathlib.Core.Path.{_≡_, refl, sym, ap, _∙_}
 use mathlib.Core.Logic.{_≢_}
@@ -16,13 +16,13 @@ use Rattle.model.specs.Nodes.{nodeAt, directOf, isOpen}
 use Rattle.model.specs.Rows.{Row, rows, rowTotal, rowAt}
 use Rattle.model.specs.Regions.{runs}
 use Rattle.runs.specs.Regions.{at, total, Tiled, Tidy, NoRow}
-use Rattle.runs.specs.Search.{regionAt, Holds}
+use Rattle.runs.specs.Search.{regionAt, childAt}
 use Rattle.runs.specs.Laid.{live, laid, Laid}
-use Rattle.runs.proofs.Rows.{settle-laid, rows-live, rows-laid, rows-normal, rows-total, find-past, region-last}
-use Rattle.runs.proofs.Search.{at-holds, hit-at}
+use Rattle.runs.proofs.Rows.{settle-laid, rows-live, rows-laid, rows-normal, rows-total, find-row, find-none, find-past, region-last}
+use Rattle.runs.proofs.Search.{hit-at}
 use Rattle.runs.proofs.Runs.{tiled-length}
 use Rattle.steps.proofs.Opening.{row-shows, no-rows}
 use Rattle.steps.specs.Settled.{Sound, withNodes}
 use Rattle.tree.proofs.Regions.{regions-few, regions-fit}
 use Rattle.tree.proofs.Rows.{rows-tidy}
 use Rattle.tree.specs.Paths.{openNodes}
@@ -51,16 +51,37 @@ module _ (m : Model) (S : Sound m) where
       let less : openNodes (m .nodes) < 255 = rw (count-all (λ i. true) 255 (λ i l. refl)) at (count-less (λ i. true) (λ i. isOpen (nodeAt (m .nodes) (suc i))) 255 k (λ i o. refl) (omega arith) refl c) in
       omega (arith, regions-few (m .nodes) (S .well), less)
 
-  -- a row that a region holds is one of the listing
+  pub laid-rows : m ≡ laid m (runs 0 (rows (m .nodes)))
+  laid-rows = settle-laid m (m .nodes) (S .is)
+
+  pub sound-laid : Laid m
+  sound-laid = rows-laid m (rows (m .nodes)) laid-rows few neat
+
+  pub sound-tiled : Tiled 0 (live m)
+  sound-tiled = rows-normal m (rows (m .nodes)) laid-rows few neat .tiled
+
+  pub sound-regions : live m ≡ runs 0 (rows (m .nodes))
+  sound-regions = rows-live m (rows (m .nodes)) laid-rows few neat
+
+  pub sound-total : total (live m) ≡ rowTotal (m .nodes)
+  sound-total = rows-total m (rows (m .nodes)) laid-rows few neat
+
+  -- no region holds a row at or past the last, and one that is held is one of the listing, with the parent and index that the region says
+  pub row-none : (r : ℕ) → regionAt (live m) r ≡ None → rowTotal (m .nodes) ≤ r
+  row-none r h = find-none m (rows (m .nodes)) laid-rows few neat r h
+
   pub found-inside : (r i : ℕ) → regionAt (live m) r ≡ At i → r < rowTotal (m .nodes)
   found-inside r i h = go (decLt r (rowTotal (m .nodes)))
     where
       go : Dec (r < rowTotal (m .nodes)) → r < rowTotal (m .nodes)
       go (yes l) = l
       go (no n) =
-          let none : regionAt (live m) r ≡ None = find-past m (rows (m .nodes)) (settle-laid m (m .nodes) (S .is)) few neat r (omega arith) in
+          let none : regionAt (live m) r ≡ None = find-past m (rows (m .nodes)) laid-rows few neat r (omega arith) in
           let z : _≡_ {A = ℕ} 0 1 = cc in
           absurd (omega arith)
+
+  pub found-row : (r i : ℕ) → regionAt (live m) r ≡ At i → rowAt (m .nodes) r ≡ (at (live m) i .node, childAt (at (live m) i) r)
+  found-row r i h = find-row m (rows (m .nodes)) laid-rows few neat r i (0, 0) h
 
   module _ (q : Model) (ns : List Node) (e : q ≡ withNodes m ns) where
     is-laid : q ≡ laid q (runs 0 (rows (m .nodes)))
