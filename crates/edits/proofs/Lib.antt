@@ -5,7 +5,6 @@ pub mod Freeing
 pub mod ChildRows
 pub mod Closing
 pub mod InnerFirst
-pub mod Course
 pub mod EndOf
 pub mod Raising
 pub mod Growing

@@ -6,3 +6,5 @@ pub mod AnswerCount
 pub mod AnswerRelease
 pub mod AnswerFetch
 pub mod AnswerOpen
+pub mod Turns
+pub mod AnswerClose

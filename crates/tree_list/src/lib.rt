@@ -2,6 +2,7 @@
 // definition of model's specs/; what it cannot serve it refuses with document 01's number.
 mod answers;
 mod blank;
+mod closing;
 mod counting;
 mod fetching;
 mod logs;
@@ -10,6 +11,7 @@ mod releasing;
 mod rows;
 mod starting;
 
+pub use closing::close;
 pub use counting::count;
 pub use fetching::fetch;
 pub use opening::open;
