@@ -1,10 +1,11 @@
--- The visits of an update: the nodes stay well-formed, and the log tells how the listing changed.
+-- The visits of an update: the nodes stay well-formed, the log tells how the listing changed, and the row total grows by the rows that open nodes add.
 use mathlib.Core.Path.{_≡_, refl, sym, _∙_, ap}
 use mathlib.Core.Logic.{_⊎_, inl, inr, _≢_}
 use mathlib.Core.Bool.{Bool, true, false, cond, not, _&&_, _||_, or-true, true≢false}
 use mathlib.Core.List.{List, [], _∷_, _++_, flatMap, append-nil}
 use Prim.Native.Nat.{ℕ, zero, suc, _+_, _≤_, _<_}
 use native.Mathlib.Omega.{arith}
+use native.Mathlib.Nat.{add-zero}
 use lib.ListN.{length, set, take, drop, take-append-drop}
 use lib.Seq.{getD-set-same, getD-set-other}
 use lib.Dec.{eqb, ltb, leb}
@@ -13,14 +14,15 @@ use Rattle.model.specs.declared.Node.{Node}
 use Rattle.model.specs.Places.{depth, longestChain}
 use Rattle.model.specs.Table.{itemCount, itemOngoing, itemVersion, entries}
 use Rattle.model.specs.Nodes.{noNode, nodeAt, directOf, used, isOpen, isOngoing, childBy, childrenFrom, children, keep, withVersion, withDirect, withOngoing, orNone}
-use Rattle.model.specs.Rows.{rowOf, paths}
+use Rattle.model.specs.Rows.{rowTotal, rowOf, paths}
 use Rattle.model.specs.Logs.{State, state, rowsChange, textChange, loggedIf}
 use Rattle.model.specs.Update.{Step, text, grow, followed, visit, wentBack, anyWentBack, added, endOf, textStep, growStep, step, steps, visits as allVisits}
 use Rattle.steps.specs.Changes.{Quiet}
+use Rattle.steps.specs.Growth.{addedRows, growth}
 use Rattle.steps.specs.Telling.{Tells, Told, Tale}
 use Rattle.steps.proofs.Put.{put-well}
-use Rattle.steps.proofs.Growing.{grown-put, grow-paths}
-use Rattle.steps.proofs.Quiet.{quiet-refl, quiet-paths, quiet-version, quiet-grown}
+use Rattle.steps.proofs.Growing.{grown-put, grow-paths, grow-row-total}
+use Rattle.steps.proofs.Quiet.{quiet-refl, quiet-rows, quiet-paths, quiet-version, quiet-grown}
 use Rattle.steps.proofs.Replay.{tells-in, tells-text, tale-refl, tale-trans, tale-if, tale-told}
 use Rattle.steps.proofs.ClosingAll.{Untouched, not-own}
 use Rattle.lists.proofs.Bools.{bool, differ}
@@ -40,6 +42,12 @@ steps-append : (t : List ℕ) (s : State) (a b : List Step) → steps t s (a ++ 
 unfolding steps
 steps-append t s [] b = refl
 steps-append t s (e ∷ a) b = steps-append t (step t s e) a b
+
+growth-append : (t : List ℕ) (ns : List Node) (a b : List Step) → growth t ns (a ++ b) ≡ growth t ns a + growth t ns b
+unfolding growth
+growth-append t ns [] b = omega arith
+growth-append t ns (text k ∷ a) b = growth-append t ns a b
+growth-append t ns (grow k ∷ a) b = omega (arith, growth-append t ns a b)
 
 -- nothing went back
 
@@ -68,15 +76,30 @@ pub record Stepped (s u : State) (k : ℕ) : Type 0 where
 
 -- a node with another version
 abbrev Versioned : Node → Node → Type 0
-Versioned a b = (used b ≡ used a) × (b .direct ≡ a .direct) × (b .entry ≡ a .entry)
+Versioned a b = (used b ≡ used a) × (b .direct ≡ a .direct) × (b .entry ≡ a .entry) × (isOpen b ≡ isOpen a)
 
 module _ (t : List ℕ) (s : State) (w : WellFormed (s .nodes)) where
   abbrev cs : List Node
   cs = s .nodes
 
+  text-quiet : (k : ℕ) → Used cs k → Quiet cs (textStep t s k .nodes)
+  unfolding textStep
+  text-quiet zero u = quiet-refl cs w
+  text-quiet (suc k) u = quiet (ltb 0 (added t (nodeAt cs (suc k))))
+    where
+      v : ℕ
+      v = itemVersion t (nodeAt cs (suc k) .entry)
+
+      quiet : (b : Bool) → Quiet cs (cond b cs (set cs (suc k) (withVersion v (nodeAt cs (suc k)))))
+      quiet true = quiet-refl cs w
+      quiet false = quiet-version cs w k v u
+
+  pub text-row-total : (k : ℕ) → Used cs k → rowTotal (textStep t s k .nodes) ≡ rowTotal cs
+  text-row-total k u = ap length (quiet-rows cs (textStep t s k .nodes) w (text-quiet k u))
+
   pub text-stepped : (k : ℕ) → Used cs k → Stepped s (textStep t s k) k × Versioned (nodeAt cs k) (nodeAt (textStep t s k .nodes) k)
   unfolding textStep
-  text-stepped zero u = (record { well = w; tale = tale-refl s; other = λ m d. refl }, (refl, refl, refl))
+  text-stepped zero u = (record { well = w; tale = tale-refl s; other = λ m d. refl }, (refl, refl, refl, refl))
   text-stepped (suc k) u = (record { well = Q .well; tale = tale; other = λ m d. other m d more }, versioned more)
     where
       n : Node
@@ -91,12 +114,8 @@ module _ (t : List ℕ) (s : State) (w : WellFormed (s .nodes)) where
       at : Bool → List Node
       at b = cond b cs (set cs (suc k) (withVersion (itemVersion t (n .entry)) n))
 
-      quiet : (b : Bool) → Quiet cs (at b)
-      quiet true = quiet-refl cs w
-      quiet false = quiet-version cs w k (itemVersion t (n .entry)) u
-
       Q : Quiet cs (at more)
-      Q = quiet more
+      Q = text-quiet (suc k) u
 
       tale : Tale s (state (at more) (s .log ++ loggedIf due (textChange (rowOf cs (suc k)))))
       tale =
@@ -109,10 +128,39 @@ module _ (t : List ℕ) (s : State) (w : WellFormed (s .nodes)) where
       other m d false = getD-set-other cs (suc k) m (withVersion (itemVersion t (n .entry)) n) noNode d
 
       versioned : (b : Bool) → Versioned n (nodeAt (at b) (suc k))
-      versioned true = (refl, refl, refl)
+      versioned true = (refl, refl, refl, refl)
       versioned false =
           let e = getD-set-same cs (suc k) (withVersion (itemVersion t (n .entry)) n) noNode (rw (w .size) (used-small cs w (suc k) u)) in
-          rw e (refl, refl, refl)
+          rw e (refl, refl, refl, refl)
+
+  -- a node that isn't open grows
+  shut-quiet : (k c : ℕ) (b : Bool) → Used cs k → isOpen (nodeAt cs k) ≡ false → directOf cs k ≤ c → Quiet cs (set cs k (orNone (withDirect c (withOngoing b (nodeAt cs k)))))
+  shut-quiet zero c b u q h = absurd (differ (zero-open cs w) q)
+  shut-quiet (suc k) c b u q h = quiet-grown cs w k c b u q h
+
+  pub grown-row-total : (k : ℕ) → Used cs k → directOf cs k ≤ itemCount t (nodeAt cs k .entry) → rowTotal (growStep t s k .nodes) ≡ rowTotal cs + addedRows t (nodeAt cs k)
+  unfolding growStep addedRows
+  grown-row-total k u h = go (bool (isOpen n))
+    where
+      n : Node
+      n = nodeAt cs k
+
+      c : ℕ
+      c = itemCount t (n .entry)
+
+      b : Bool
+      b = n .ongoing && itemOngoing t (n .entry)
+
+      grown : Node
+      grown = withDirect c (withOngoing b n)
+
+      go : (isOpen n ≡ true) ⊎ (isOpen n ≡ false) → rowTotal (set cs k (orNone grown)) ≡ rowTotal cs + cond (isOpen n) (added t n) 0
+      go (inl o) =
+          let kept : orNone grown ≡ grown = rw o in
+          ap (λ (x : Node). rowTotal (set cs k x)) kept
+          ∙ grow-row-total cs w k grown (grown-put cs w k c b o h) o (added t n) (omega arith)
+          ∙ ap (λ (z : Bool). rowTotal cs + cond z (added t n) 0) (sym o)
+      go (inr q) = ap length (quiet-rows cs (set cs k (orNone grown)) w (shut-quiet k c b u q h)) ∙ rw (q, add-zero)
 
   pub grow-stepped : (k : ℕ) → Used cs k → directOf cs k ≤ itemCount t (nodeAt cs k .entry) → Stepped s (growStep t s k) k
   unfolding growStep
@@ -157,17 +205,13 @@ module _ (t : List ℕ) (s : State) (w : WellFormed (s .nodes)) where
           none : (d : ℕ) → d ≡ 0 → paths (set cs k grown) ≡ take (endOf cs k) (paths cs) ++ childPaths (to cs k) (directOf cs k) d ++ drop (endOf cs k) (paths cs) → paths (set cs k grown) ≡ paths cs
           none d z e = e ∙ ap (λ (x : ℕ). take (endOf cs k) (paths cs) ++ childPaths (to cs k) (directOf cs k) x ++ drop (endOf cs k) (paths cs)) z ∙ ap (λ (l : List Path). l ++ drop (endOf cs k) (paths cs)) (append-nil (take (endOf cs k) (paths cs))) ∙ take-append-drop (endOf cs k) (paths cs)
 
-      quiet : (k : ℕ) → Used cs k → isOpen (nodeAt cs k) ≡ false → directOf cs k ≤ c → Quiet cs (set cs k (orNone (withDirect c (withOngoing b (nodeAt cs k)))))
-      quiet zero u q h = absurd (differ (zero-open cs w) q)
-      quiet (suc k) u q h = quiet-grown cs w k c b u q h
-
       kept : isOpen n ≡ true → orNone grown ≡ grown
       kept o = rw o
 
       go : (isOpen n ≡ true) ⊎ (isOpen n ≡ false) → Stepped s (after (orNone grown)) k
       go (inl o) = rw (kept o) (opened o)
       go (inr q) =
-          let Q = quiet k u q h in
+          let Q = shut-quiet k c b u q h in
           let e = quiet-paths cs (set cs k (orNone grown)) w Q in
           record { well = Q .well; tale = due (orNone grown) (λ z. absurd (true≢false (sym z ∙ rw q))) (λ z. e); other = other (orNone grown) }
 
@@ -175,10 +219,11 @@ pub ongoing-used : (n : Node) → isOngoing n ≡ true → used n ≡ true
 ongoing-used n o = rw o (or-true (n .«open»))
 
 module _ (t : List ℕ) (ns : List Node) (w : WellFormed ns) where
-  -- s becomes v by visits in a part of the tree
-  record Walked (R : Path → Type 0) (s v : State) : Type 0 where
+  -- s becomes v by steps in a part of the tree
+  record Walked (R : Path → Type 0) (es : List Step) (s v : State) : Type 0 where
     well : WellFormed (v .nodes)
     tale : Tale s v
+    rows : rowTotal (v .nodes) ≡ rowTotal (s .nodes) + growth t ns es
     away : (m : ℕ) → (Used ns m → R (to ns m) → ⊥) → nodeAt (v .nodes) m ≡ nodeAt (s .nodes) m
 
   -- a visit works to a depth of f
@@ -191,7 +236,7 @@ module _ (t : List ℕ) (ns : List Node) (w : WellFormed ns) where
       → (s : State)
       → WellFormed (s .nodes)
       → Untouched ns (Under (to ns k)) (s .nodes)
-      → Walked (Under (to ns k)) s (steps t s (visit ns f k))
+      → Walked (Under (to ns k)) (visit ns f k) s (steps t s (visit ns f k))
 
   abbrev each : ℕ → List ℕ → List Step
   each f ks = flatMap (λ j. visit ns f j) ks
@@ -202,9 +247,9 @@ module _ (t : List ℕ) (ns : List Node) (w : WellFormed ns) where
       → Visits f
       → (n i : ℕ)
       → let es = each f (childrenFrom isOngoing ns p i n) in
-      anyWentBack t ns es ≡ false → (s : State) → WellFormed (s .nodes) → Untouched ns (From ns p i) (s .nodes) → Walked (From ns p i) s (steps t s es)
-  unfolding childrenFrom keep flatMap anyWentBack steps
-  each-child f p d visits zero i nb s ws same = record { well = ws; tale = tale-refl s; away = λ m k. refl }
+      anyWentBack t ns es ≡ false → (s : State) → WellFormed (s .nodes) → Untouched ns (From ns p i) (s .nodes) → Walked (From ns p i) es s (steps t s es)
+  unfolding childrenFrom keep flatMap anyWentBack steps growth
+  each-child f p d visits zero i nb s ws same = record { well = ws; tale = tale-refl s; rows = sym (add-zero (rowTotal (s .nodes))); away = λ m k. refl }
   each-child f p d visits (suc n) i nb s ws same = go (childBy isOngoing ns p i) refl nb (λ q b wb keep. each-child f p d visits n (suc i) q b wb keep)
     where
       later : (x : Path) → From ns p (suc i) x → From ns p i x
@@ -218,11 +263,11 @@ module _ (t : List ℕ) (ns : List Node) (w : WellFormed ns) where
           → childBy isOngoing ns p i ≡ j
           → let es = each f (keep j (childrenFrom isOngoing ns p (suc i) n)) in
           anyWentBack t ns es ≡ false
-          → (anyWentBack t ns Rest ≡ false → (b : State) → WellFormed (b .nodes) → Untouched ns (From ns p (suc i)) (b .nodes) → Walked (From ns p (suc i)) b (steps t b Rest))
-          → Walked (From ns p i) s (steps t s es)
+          → (anyWentBack t ns Rest ≡ false → (b : State) → WellFormed (b .nodes) → Untouched ns (From ns p (suc i)) (b .nodes) → Walked (From ns p (suc i)) Rest b (steps t b Rest))
+          → Walked (From ns p i) es s (steps t s es)
       go zero e q ih =
           let B = ih q s ws (λ m u r. same m u (later (to ns m) r)) in
-          record { well = B .well; tale = B .tale; away = λ m k. B .away m (λ u r. k u (later (to ns m) r)) }
+          record { well = B .well; tale = B .tale; rows = B .rows; away = λ m k. B .away m (λ u r. k u (later (to ns m) r)) }
       go (suc j) e q ih =
           let r = child-found isOngoing ns p i j e in
           let v : Used ns (suc j) = ongoing-used (nodeAt ns (suc j)) (r .0) in
@@ -237,6 +282,7 @@ module _ (t : List ℕ) (ns : List Node) (w : WellFormed ns) where
           (record {
             well = B .well;
             tale = tale-trans (C .tale) (B .tale);
+            rows = omega (arith, growth-append t ns (visit ns f (suc j)) Rest, C .rows, B .rows);
             away = λ m k. B .away m (λ u z. k u (later (to ns m) z)) ∙ C .away m (λ u z. k u (i, (omega arith), rw a at z));
           })
 
@@ -254,34 +300,61 @@ module _ (t : List ℕ) (ns : List Node) (w : WellFormed ns) where
     T : Stepped s texted k × Versioned (nodeAt (s .nodes) k) (nodeAt (texted .nodes) k)
     T = text-stepped t s ws k (rw own u)
 
-    below : (b : Bool) → anyWentBack t ns (Below b) ≡ false → Walked (From ns k 0) texted (steps t texted (Below b))
-    unfolding children flatMap steps
+    below : (b : Bool) → anyWentBack t ns (Below b) ≡ false → Walked (From ns k 0) (Below b) texted (steps t texted (Below b))
+    unfolding children flatMap steps growth
     below true nb =
         each-child f k d ih (directOf ns k) 0 nb texted (T .0 .well)
         (λ m v r. T .0 .other m (λ e. not-own (to ns k) (r .0) (rw e at (r .2))) ∙ same m v (inr (under-ext (to ns k · r .0) (child-ext (to ns k) (r .0)) (r .2))))
-    below false nb = record { well = T .0 .well; tale = tale-refl texted; away = λ m z. refl }
+    below false nb = record { well = T .0 .well; tale = tale-refl texted; rows = sym (add-zero (rowTotal (texted .nodes))); away = λ m z. refl }
 
     module _ (b : Bool) (nb : anyWentBack t ns (Below b) ≡ false) (nk : wentBack t ns k ≡ false) where
       abbrev walked : State
       walked = steps t texted (Below b)
 
-      W : Walked (From ns k 0) texted walked
+      W : Walked (From ns k 0) (Below b) texted walked
       W = below b nb
 
       own-still : nodeAt (walked .nodes) k ≡ nodeAt (texted .nodes) k
       own-still = W .away k (λ v r. not-own (to ns k) (r .0) (r .2))
 
-      G : Stepped walked (growStep t walked k) k
-      G =
-          let v = T .1 in
-          let c₁ : directOf (walked .nodes) k ≡ directOf ns k = ap (λ (n : Node). n .direct) own-still ∙ v .1 ∙ ap (λ (n : Node). n .direct) own in
-          let c₂ : nodeAt (walked .nodes) k .entry ≡ nodeAt ns k .entry = ap (λ (n : Node). n .entry) own-still ∙ v .2 ∙ ap (λ (n : Node). n .entry) own in
-          grow-stepped t walked (W .well) k (ap used own-still ∙ v .0 ∙ ap used own ∙ u) (rw (c₁, c₂) (not-back t ns k nk))
+      same-direct : directOf (walked .nodes) k ≡ directOf ns k
+      same-direct = ap (λ (n : Node). n .direct) own-still ∙ T .1 .1 ∙ ap (λ (n : Node). n .direct) own
 
-      visit-one : Walked (Under (to ns k)) s (growStep t walked k)
+      same-entry : nodeAt (walked .nodes) k .entry ≡ nodeAt ns k .entry
+      same-entry = ap (λ (n : Node). n .entry) own-still ∙ T .1 .2 ∙ ap (λ (n : Node). n .entry) own
+
+      same-open : isOpen (nodeAt (walked .nodes) k) ≡ isOpen (nodeAt ns k)
+      same-open = ap isOpen own-still ∙ T .1 .3 ∙ ap isOpen own
+
+      same-rows : addedRows t (nodeAt (walked .nodes) k) ≡ addedRows t (nodeAt ns k)
+      unfolding addedRows
+      same-rows = rw (same-open, same-direct, same-entry)
+
+      still-used : Used (walked .nodes) k
+      still-used = ap used own-still ∙ T .1 .0 ∙ ap used own ∙ u
+
+      no-fewer : directOf (walked .nodes) k ≤ itemCount t (nodeAt (walked .nodes) k .entry)
+      no-fewer = rw (same-direct, same-entry) (not-back t ns k nk)
+
+      G : Stepped walked (growStep t walked k) k
+      G = grow-stepped t walked (W .well) k still-used no-fewer
+
+      visit-rows : rowTotal (growStep t walked k .nodes) ≡ rowTotal (s .nodes) + growth t ns (text k ∷ (Below b ++ (grow k ∷ [])))
+      unfolding growth
+      visit-rows = omega (
+        arith,
+        text-row-total t s ws k (rw own u),
+        W .rows,
+        grown-row-total t walked (W .well) k still-used no-fewer,
+        same-rows,
+        growth-append t ns (Below b) (grow k ∷ []),
+      )
+
+      visit-one : Walked (Under (to ns k)) (text k ∷ (Below b ++ (grow k ∷ []))) s (growStep t walked k)
       visit-one = record {
         well = G .well;
         tale = tale-trans (T .0 .tale) (tale-trans (W .tale) (G .tale));
+        rows = visit-rows;
         away = λ m z.
             let n : m ≢ k = λ e. z (rw e u) (inl (ap (to ns) e)) in
             G .other m n
@@ -300,11 +373,15 @@ module _ (t : List ℕ) (ns : List Node) (w : WellFormed ns) where
       (visit-one f k u d (visits f) s ws same (isOpen (nodeAt ns k)) (r .0) (q .0))
 
 -- the whole update
-pub update-steps :
-    (t : List ℕ) (ns : List Node) (w : WellFormed ns)
-    → anyWentBack t ns (allVisits ns) ≡ false
-    → let s = steps t (state ns []) (allVisits ns) in WellFormed (s .nodes) × Told (paths ns) (s .log) (paths (s .nodes))
-update-steps t ns w nb =
-    let s = steps t (state ns []) (allVisits ns) in
-    let W = visits t ns w depth 0 (open-used ns 0 (zero-open ns w)) (omega arith) nb (state ns []) w (λ m u r. refl) in
-    (W .well, tale-told ns s (W .tale))
+module _ (t : List ℕ) (ns : List Node) (w : WellFormed ns) (nb : anyWentBack t ns (allVisits ns) ≡ false) where
+  abbrev updated : State
+  updated = steps t (state ns []) (allVisits ns)
+
+  whole : Walked t ns w (Under (to ns 0)) (allVisits ns) (state ns []) updated
+  whole = visits t ns w depth 0 (open-used ns 0 (zero-open ns w)) (omega arith) nb (state ns []) w (λ m u r. refl)
+
+  pub update-steps : WellFormed (updated .nodes) × Told (paths ns) (updated .log) (paths (updated .nodes))
+  update-steps = (whole .well, tale-told ns updated (whole .tale))
+
+  pub update-row-total : rowTotal (updated .nodes) ≡ rowTotal ns + growth t ns (allVisits ns)
+  update-row-total = whole .rows

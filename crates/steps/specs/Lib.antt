@@ -2,3 +2,4 @@
 pub mod Changes
 pub mod Settled
 pub mod Telling
+pub mod Growth

@@ -8,3 +8,5 @@ pub mod AnswerFetch
 pub mod AnswerOpen
 pub mod Turns
 pub mod AnswerClose
+pub mod UpdateTests
+pub mod AnswerUpdate

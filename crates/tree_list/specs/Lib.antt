@@ -2,3 +2,4 @@
 pub mod Following
 pub mod OpenedRow
 pub mod Logging
+pub mod Updating

@@ -5,8 +5,9 @@ use model::ChangeAnswer;
 use model::FetchAnswer;
 use model::Model;
 use model::ModelAnswer;
+use model::UpdateAnswer;
 ghost use mathlib.Core.Path.{_≡_};
-ghost use Rattle.model.specs.Answers.{justModel, noFetch, noChange};
+ghost use Rattle.model.specs.Answers.{justModel, noFetch, noChange, noUpdate};
 
 pub fn just_model(refusal: u64, m: Model) -> ModelAnswer
     ensures { λ r. ⌜ r ≡ justModel refusal m ⌝ }
@@ -33,5 +34,17 @@ pub fn no_change(refusal: u64, m: Model) -> ChangeAnswer
         refusal,
         model: m,
         log,
+    }
+}
+
+pub fn no_update(refusal: u64, m: Model) -> UpdateAnswer
+    ensures { λ r. ⌜ r ≡ noUpdate refusal m ⌝ }
+{
+    let log = no_log();
+    UpdateAnswer {
+        refusal,
+        model: m,
+        log,
+        ongoing: false,
     }
 }

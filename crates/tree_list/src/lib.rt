@@ -10,6 +10,7 @@ mod opening;
 mod releasing;
 mod rows;
 mod starting;
+mod updating;
 
 pub use closing::close;
 pub use counting::count;
