@@ -87,6 +87,22 @@ unfolding steps
 steps-short t [] s = omega arith
 steps-short t (e ∷ es) s = omega (arith, step-short t s e, steps-short t es (step t s e))
 
+step-longer : (t : List ℕ) (s : State) (e : Step) → length (s .log) ≤ length (step t s e .log)
+unfolding step textStep growStep
+step-longer t s (text zero) = omega arith
+step-longer t s (text (suc k)) =
+    let n = nodeAt (s .nodes) (suc k) in
+    omega (arith, length-append (s .log) (loggedIf (ltb 0 (added t n) || not (eqb (n .version) (itemVersion t (n .entry)))) (textChange (rowOf (s .nodes) (suc k)))))
+step-longer t s (grow k) =
+    let n = nodeAt (s .nodes) k in
+    omega (arith, length-append (s .log) (loggedIf (isOpen n && ltb 0 (added t n)) (rowsChange (endOf (s .nodes) k) 0 (added t n))))
+
+-- no step takes a record away
+pub steps-longer : (t : List ℕ) (es : List Step) (s : State) → length (s .log) ≤ length (steps t s es .log)
+unfolding steps
+steps-longer t [] s = omega arith
+steps-longer t (e ∷ es) s = omega (arith, step-longer t s e, steps-longer t es (step t s e))
+
 -- the capture has no text
 root-short : (t : List ℕ) (ns : List Node) (s : State) (f : ℕ) → length (steps t s (visit ns (suc f) 0) .log) < length (s .log) + length (visit ns (suc f) 0)
 unfolding visit steps step textStep

@@ -1,5 +1,5 @@
 -- The visits of an update: the nodes stay well-formed, the log tells how the listing changed, and the row total grows by the rows that open nodes add.
-use mathlib.Core.Path.{_≡_, refl, sym, _∙_, ap}
+use mathlib.Core.Path.{_≡_, refl, sym, _∙_, ap, subst}
 use mathlib.Core.Logic.{_⊎_, inl, inr, _≢_}
 use mathlib.Core.Bool.{Bool, true, false, cond, not, _&&_, _||_, or-true, true≢false}
 use mathlib.Core.List.{List, [], _∷_, _++_, flatMap, append-nil}
@@ -9,7 +9,7 @@ use native.Mathlib.Nat.{add-zero}
 use lib.ListN.{length, set, take, drop, take-append-drop}
 use lib.Seq.{getD-set-same, getD-set-other}
 use lib.Dec.{eqb, ltb, leb}
-use borrow.Author.Tests.{ltb-false}
+use borrow.Author.Tests.{ltb-false, leb-false}
 use Rattle.model.specs.declared.Node.{Node}
 use Rattle.model.specs.Places.{depth, longestChain}
 use Rattle.model.specs.Table.{itemCount, itemOngoing, itemVersion, entries}
@@ -18,6 +18,7 @@ use Rattle.model.specs.Rows.{rowTotal, rowOf, paths}
 use Rattle.model.specs.Logs.{State, state, rowsChange, textChange, loggedIf}
 use Rattle.model.specs.Update.{Step, text, grow, followed, visit, wentBack, anyWentBack, added, endOf, textStep, growStep, step, steps, visits as allVisits}
 use Rattle.steps.specs.Changes.{Quiet}
+use Rattle.steps.specs.Course.{Ready, nodeOf, Course, ends, goes}
 use Rattle.steps.specs.Growth.{addedRows, growth}
 use Rattle.steps.specs.Telling.{Tells, Told, Tale}
 use Rattle.steps.proofs.Put.{put-well}
@@ -49,6 +50,11 @@ growth-append t ns [] b = omega arith
 growth-append t ns (text k ∷ a) b = growth-append t ns a b
 growth-append t ns (grow k ∷ a) b = omega (arith, growth-append t ns a b)
 
+course-append : (t : List ℕ) (s : State) (a b : List Step) → Course t s a → Course t (steps t s a) b → Course t s (a ++ b)
+unfolding steps
+course-append t s [] b ends D = D
+course-append t s (e ∷ a) b (goes r C) D = goes r (course-append t (step t s e) a b C D)
+
 -- nothing went back
 
 neither : (a b : Bool) → a || b ≡ false → (a ≡ false) × (b ≡ false)
@@ -67,6 +73,10 @@ back-append t ns (grow k ∷ a) b e = back-append t ns a b e
 not-back : (t : List ℕ) (ns : List Node) (k : ℕ) → wentBack t ns k ≡ false → directOf ns k ≤ itemCount t (nodeAt ns k .entry)
 unfolding wentBack
 not-back t ns k e = ltb-false (itemCount t (nodeAt ns k .entry)) (directOf ns k) (neither (leb (entries t) (nodeAt ns k .entry)) (ltb (itemCount t (nodeAt ns k .entry)) (nodeAt ns k .direct)) e .1)
+
+not-past : (t : List ℕ) (ns : List Node) (k : ℕ) → wentBack t ns k ≡ false → nodeAt ns k .entry < entries t
+unfolding wentBack
+not-past t ns k e = leb-false (entries t) (nodeAt ns k .entry) (neither (leb (entries t) (nodeAt ns k .entry)) (ltb (itemCount t (nodeAt ns k .entry)) (nodeAt ns k .direct)) e .0)
 
 -- a step at node k
 pub record Stepped (s u : State) (k : ℕ) : Type 0 where
@@ -223,6 +233,7 @@ module _ (t : List ℕ) (ns : List Node) (w : WellFormed ns) where
   record Walked (R : Path → Type 0) (es : List Step) (s v : State) : Type 0 where
     well : WellFormed (v .nodes)
     tale : Tale s v
+    course : Course t s es
     rows : rowTotal (v .nodes) ≡ rowTotal (s .nodes) + growth t ns es
     away : (m : ℕ) → (Used ns m → R (to ns m) → ⊥) → nodeAt (v .nodes) m ≡ nodeAt (s .nodes) m
 
@@ -249,7 +260,7 @@ module _ (t : List ℕ) (ns : List Node) (w : WellFormed ns) where
       → let es = each f (childrenFrom isOngoing ns p i n) in
       anyWentBack t ns es ≡ false → (s : State) → WellFormed (s .nodes) → Untouched ns (From ns p i) (s .nodes) → Walked (From ns p i) es s (steps t s es)
   unfolding childrenFrom keep flatMap anyWentBack steps growth
-  each-child f p d visits zero i nb s ws same = record { well = ws; tale = tale-refl s; rows = sym (add-zero (rowTotal (s .nodes))); away = λ m k. refl }
+  each-child f p d visits zero i nb s ws same = record { well = ws; tale = tale-refl s; course = ends; rows = sym (add-zero (rowTotal (s .nodes))); away = λ m k. refl }
   each-child f p d visits (suc n) i nb s ws same = go (childBy isOngoing ns p i) refl nb (λ q b wb keep. each-child f p d visits n (suc i) q b wb keep)
     where
       later : (x : Path) → From ns p (suc i) x → From ns p i x
@@ -267,7 +278,7 @@ module _ (t : List ℕ) (ns : List Node) (w : WellFormed ns) where
           → Walked (From ns p i) es s (steps t s es)
       go zero e q ih =
           let B = ih q s ws (λ m u r. same m u (later (to ns m) r)) in
-          record { well = B .well; tale = B .tale; rows = B .rows; away = λ m k. B .away m (λ u r. k u (later (to ns m) r)) }
+          record { well = B .well; tale = B .tale; course = B .course; rows = B .rows; away = λ m k. B .away m (λ u r. k u (later (to ns m) r)) }
       go (suc j) e q ih =
           let r = child-found isOngoing ns p i j e in
           let v : Used ns (suc j) = ongoing-used (nodeAt ns (suc j)) (r .0) in
@@ -282,6 +293,7 @@ module _ (t : List ℕ) (ns : List Node) (w : WellFormed ns) where
           (record {
             well = B .well;
             tale = tale-trans (C .tale) (B .tale);
+            course = course-append t s (visit ns f (suc j)) Rest (C .course) (B .course);
             rows = omega (arith, growth-append t ns (visit ns f (suc j)) Rest, C .rows, B .rows);
             away = λ m k. B .away m (λ u z. k u (later (to ns m) z)) ∙ C .away m (λ u z. k u (i, (omega arith), rw a at z));
           })
@@ -305,7 +317,7 @@ module _ (t : List ℕ) (ns : List Node) (w : WellFormed ns) where
     below true nb =
         each-child f k d ih (directOf ns k) 0 nb texted (T .0 .well)
         (λ m v r. T .0 .other m (λ e. not-own (to ns k) (r .0) (rw e at (r .2))) ∙ same m v (inr (under-ext (to ns k · r .0) (child-ext (to ns k) (r .0)) (r .2))))
-    below false nb = record { well = T .0 .well; tale = tale-refl texted; rows = sym (add-zero (rowTotal (texted .nodes))); away = λ m z. refl }
+    below false nb = record { well = T .0 .well; tale = tale-refl texted; course = ends; rows = sym (add-zero (rowTotal (texted .nodes))); away = λ m z. refl }
 
     module _ (b : Bool) (nb : anyWentBack t ns (Below b) ≡ false) (nk : wentBack t ns k ≡ false) where
       abbrev walked : State
@@ -330,14 +342,20 @@ module _ (t : List ℕ) (ns : List Node) (w : WellFormed ns) where
       unfolding addedRows
       same-rows = rw (same-open, same-direct, same-entry)
 
-      still-used : Used (walked .nodes) k
-      still-used = ap used own-still ∙ T .1 .0 ∙ ap used own ∙ u
+      -- what is asked of node k is so at its two steps
+      at-text : Ready t (s .nodes) k
+      at-text = record { well = ws; live = rw own u; listed = rw own (not-past t ns k nk); more = subst (λ (n : Node). n .direct ≤ itemCount t (n .entry)) (sym own) (not-back t ns k nk) }
 
-      no-fewer : directOf (walked .nodes) k ≤ itemCount t (nodeAt (walked .nodes) k .entry)
-      no-fewer = rw (same-direct, same-entry) (not-back t ns k nk)
+      at-growth : Ready t (walked .nodes) k
+      at-growth = record {
+        well = W .well;
+        live = ap used own-still ∙ T .1 .0 ∙ ap used own ∙ u;
+        listed = rw same-entry (not-past t ns k nk);
+        more = rw (same-direct, same-entry) (not-back t ns k nk);
+      }
 
       G : Stepped walked (growStep t walked k) k
-      G = grow-stepped t walked (W .well) k still-used no-fewer
+      G = grow-stepped t walked (W .well) k (at-growth .live) (at-growth .more)
 
       visit-rows : rowTotal (growStep t walked k .nodes) ≡ rowTotal (s .nodes) + growth t ns (text k ∷ (Below b ++ (grow k ∷ [])))
       unfolding growth
@@ -345,15 +363,17 @@ module _ (t : List ℕ) (ns : List Node) (w : WellFormed ns) where
         arith,
         text-row-total t s ws k (rw own u),
         W .rows,
-        grown-row-total t walked (W .well) k still-used no-fewer,
+        grown-row-total t walked (W .well) k (at-growth .live) (at-growth .more),
         same-rows,
         growth-append t ns (Below b) (grow k ∷ []),
       )
 
       visit-one : Walked (Under (to ns k)) (text k ∷ (Below b ++ (grow k ∷ []))) s (growStep t walked k)
+      unfolding step
       visit-one = record {
         well = G .well;
         tale = tale-trans (T .0 .tale) (tale-trans (W .tale) (G .tale));
+        course = goes at-text (course-append t texted (Below b) (grow k ∷ []) (W .course) (goes at-growth ends));
         rows = visit-rows;
         away = λ m z.
             let n : m ≢ k = λ e. z (rw e u) (inl (ap (to ns) e)) in
@@ -385,3 +405,22 @@ module _ (t : List ℕ) (ns : List Node) (w : WellFormed ns) (nb : anyWentBack t
 
   pub update-row-total : rowTotal (updated .nodes) ≡ rowTotal ns + growth t ns (allVisits ns)
   update-row-total = whole .rows
+
+  pub update-course : Course t (state ns []) (allVisits ns)
+  update-course = whole .course
+
+-- the growth of an open node brings the rows that were added
+pub grow-fuller : (t : List ℕ) (s : State) (k : ℕ) → Ready t (s .nodes) k → isOpen (nodeAt (s .nodes) k) ≡ true → rowTotal (growStep t s k .nodes) ≡ rowTotal (s .nodes) + added t (nodeAt (s .nodes) k)
+unfolding addedRows
+grow-fuller t s k R o = grown-row-total t s (R .well) k (R .live) (R .more) ∙ rw o
+
+-- a step takes no row away
+step-fuller : (t : List ℕ) (s : State) (e : Step) → Ready t (s .nodes) (nodeOf e) → rowTotal (s .nodes) ≤ rowTotal (step t s e .nodes)
+unfolding step
+step-fuller t s (text k) R = omega (arith, text-row-total t s (R .well) k (R .live))
+step-fuller t s (grow k) R = omega (arith, grown-row-total t s (R .well) k (R .live) (R .more))
+
+pub course-fuller : (t : List ℕ) (s : State) (es : List Step) → Course t s es → rowTotal (s .nodes) ≤ rowTotal (steps t s es .nodes)
+unfolding steps
+course-fuller t s [] ends = omega arith
+course-fuller t s (e ∷ es) (goes R C) = omega (arith, step-fuller t s e R, course-fuller t (step t s e) es C)

@@ -3,3 +3,4 @@ pub mod Changes
 pub mod Settled
 pub mod Telling
 pub mod Growth
+pub mod Course

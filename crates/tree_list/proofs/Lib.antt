@@ -1,5 +1,8 @@
 -- Laws that the operations' proofs apply.
 pub mod Records
+pub mod Entries
+pub mod StepsInPlace
+pub mod StepsInOrder
 pub mod SoundRows
 pub mod AnswerNew
 pub mod AnswerCount

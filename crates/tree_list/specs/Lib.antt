@@ -3,3 +3,4 @@ pub mod Following
 pub mod OpenedRow
 pub mod Logging
 pub mod Updating
+pub mod Visiting

@@ -1,6 +1,9 @@
 // Update: each followed row is visited, unless an item went back or there would be too many rows.
+use crate::answers::no_update;
+use crate::visits::run_visits;
 use model::Model;
 use model::Node;
+use model::UpdateAnswer;
 use orders::Order;
 ghost use mathlib.Core.Path.{_≡_};
 ghost use mathlib.Core.Bool.{true, false};
@@ -11,7 +14,7 @@ ghost use Rattle.model.specs.Table.{readable, itemCount};
 ghost use Rattle.model.specs.Rows.{rowTotal};
 ghost use Rattle.model.specs.Sound.{sound};
 ghost use Rattle.model.specs.Logs.{state};
-ghost use Rattle.model.specs.Update.{visits, anyWentBack, steps};
+ghost use Rattle.model.specs.Update.{visits, anyWentBack, steps, answerUpdate};
 ghost use Rattle.orders.specs.Orders.{codes, Holds};
 ghost use Rattle.steps.specs.Growth.{addedRows};
 ghost use Rattle.tree_list.specs.Updating.{nodeBack, stepBack, stepRows};
@@ -117,4 +120,23 @@ fn passes_limit(table: &[u64], m: Model, order: Order) -> bool
         i += 1;
     }
     false
+}
+
+pub fn update(table: &[u64], m: Model) -> UpdateAnswer
+    ensures { λ r. ⌜ r ≡ answerUpdate (now (table .entry)) m ⌝ }
+{
+    if !sound::is_sound(m) {
+        return no_update(1, m);
+    }
+    if !table::is_readable(table) {
+        return no_update(2, m);
+    }
+    let order = orders::visits(m);
+    if any_went_back(table, m, order) {
+        return no_update(8, m);
+    }
+    if passes_limit(table, m, order) {
+        return no_update(7, m);
+    }
+    run_visits(table, m)
 }
