@@ -1,169 +1,100 @@
-// Runs cases through the code and prints what they give; the file stdout has what it must print.
-use libc::STDOUT_FILENO;
-use model::ChildIndex;
+// The small capture of document 01: cases a to l through the operations, and two rows opened in either order.
+// The file stdout has what it must print.
+use model::ChangeAnswer;
 use model::Model;
-use model::Node;
-use model::Region;
 use model::RowNumber;
+use printing::log;
+use printing::number;
+use printing::state;
+use printing::text;
 
-fn print(text: &[u8]) {
-    io::write_all(STDOUT_FILENO, text);
-}
-
-fn print_number(name: &[u8], n: u64) {
-    print(name);
-    io::print_decimal(STDOUT_FILENO, n);
-}
-
-// Whether a table can be read: if not, calls refuse 2.
-fn show_readable(table: &[u64]) {
-    print_number(b"a table of ", table.len() as u64);
-    if table::is_readable(table) {
-        print(b" words can be read\n");
-    } else {
-        print(b" words is refused with 2\n");
-    }
-}
-
-fn show_entry(entry: u64, count: u64, state: u64, version: u64) {
-    print_number(b": entry ", entry);
-    print_number(b", count ", count);
-    print_number(b", version ", version);
-    if state == 0 {
-        print(b", ongoing\n");
-    } else {
-        print(b", complete\n");
-    }
-}
-
-fn show_child(table: &[u64], parent: u64, index: u64) {
-    print_number(b"  child ", index);
-    let words = table::child_words(table, parent, ChildIndex(index));
-    if words.len() < 5 {
-        print(b": not listed, a complete leaf\n");
-        return;
-    }
-    let entry = table::child_entry(table, parent, ChildIndex(index));
-    show_entry(entry, words[2], words[3], words[4]);
-}
-
-// The first children of an item, as the table has them.
-fn show_children(table: &[u64], parent: u64, count: u64) {
-    print_number(b"children of entry ", parent);
-    print(b"\n");
-    let mut index: u64 = 0;
-    while index < count {
-        show_child(table, parent, index);
-        index += 1;
-    }
-}
-
-// Entry 0 with 300 children, all of them listed and ongoing.
-fn long_table() -> [u64; 1505] {
-    let mut table = [0u64; 1505];
-    table[2] = 300;
-    let mut child: usize = 0;
-    while child < 300 {
-        table[5 * child + 6] = child as u64;
-        child += 1;
-    }
-    table
-}
-
-// The capture with 300 rows, of which none is followed yet.
-fn long_model() -> Model {
-    let none = Node {
-        parent: 0,
-        index: 0,
-        entry: 0,
-        direct: 0,
-        total: 0,
-        version: 0,
-        open: false,
-        ongoing: false,
-    };
-    let no_region = Region {
-        start: 0,
-        node: 0,
-        offset: 0,
-        length: 0,
-    };
-    let mut m = Model {
-        nodes: [none; 256],
-        regions: [no_region; 512],
-        region_count: 1,
-        published: 300,
-    };
-    m.nodes[0].direct = 300;
-    m.nodes[0].total = 300;
-    m.nodes[0].open = true;
-    m.nodes[0].ongoing = true;
-    m.regions[0].length = 300;
-    m
-}
-
-// Rows 0 to 253 are fetched.
-fn follow_rows(table: &[u64], m: Model) -> Model {
-    let mut q = m;
-    let mut row: u64 = 0;
-    while row < 254 {
-        q = tree_list::fetch(table, q, RowNumber(row)).model;
-        row += 1;
-    }
-    q
-}
-
-fn show_fetch(table: &[u64], m: Model, row: u64) -> Model {
-    let answer = tree_list::fetch(table, m, RowNumber(row));
-    print_number(b"fetch row ", row);
-    print_number(b": ", answer.refusal);
-    print_number(b", node ", answer.row.node);
-    print(b"\n");
+fn changed(name: &[u8], answer: ChangeAnswer) -> Model {
+    number(name, answer.refusal);
+    log(answer.log);
+    state(answer.model);
+    text(b"\n");
     answer.model
 }
 
-fn show_release(m: Model, row: u64) -> Model {
-    let answer = tree_list::release(m, RowNumber(row));
-    print_number(b"release row ", row);
-    print_number(b": ", answer.refusal);
-    print(b"\n");
-    answer.model
-}
-
-// The 255th followed row is taken, the next gives 6, and after one release it is taken.
-fn followed_rows(table: &[u64]) {
-    print(b"254 of 300 ongoing rows are followed\n");
-    let m = follow_rows(table, long_model());
-    let last = show_fetch(table, m, 254);
-    let full = show_fetch(table, last, 255);
-    let freed = show_release(full, 7);
-    let taken = show_fetch(table, freed, 255);
-    show_fetch(table, taken, 300);
-}
-
-// A model of each table: of one that is refused it is of zeros, and refused with 1.
-fn show_new(table: &[u64]) {
+fn new(name: &[u8], table: &[u64]) -> Model {
     let answer = tree_list::new(table);
-    let count = tree_list::count(answer.model);
-    print_number(b"new on a table of ", table.len() as u64);
-    print_number(b" words: ", answer.refusal);
-    print_number(b", count: ", count.refusal);
-    print_number(b" ", count.count);
-    print(b"\n");
+    number(name, answer.refusal);
+    state(answer.model);
+    text(b"\n");
+    answer.model
+}
+
+fn update(name: &[u8], table: &[u64], m: Model) -> Model {
+    let answer = tree_list::update(table, m);
+    number(name, answer.refusal);
+    if answer.ongoing {
+        text(b" ongoing");
+    }
+    log(answer.log);
+    state(answer.model);
+    text(b"\n");
+    answer.model
+}
+
+fn open(name: &[u8], table: &[u64], m: Model, row: u64) -> Model {
+    changed(name, tree_list::open(table, m, RowNumber(row)))
+}
+
+fn close(name: &[u8], m: Model, row: u64) -> Model {
+    changed(name, tree_list::close(m, RowNumber(row)))
+}
+
+fn fetch(name: &[u8], table: &[u64], m: Model, row: u64) -> Model {
+    let answer = tree_list::fetch(table, m, RowNumber(row));
+    let shown = answer.row;
+    number(name, answer.refusal);
+    number(b" parent entry ", shown.parent_entry);
+    number(b" index ", shown.index.0);
+    number(b" entry ", shown.entry);
+    number(b" count ", shown.count);
+    number(b" version ", shown.version);
+    if shown.open {
+        text(b" open");
+    }
+    if shown.ongoing {
+        text(b" ongoing");
+    }
+    number(b" node ", shown.node);
+    text(b"\n");
+    answer.model
+}
+
+// Cases a to l; t0, t1 and t2 are document 01's tables.
+fn small_capture(t0: &[u64], t1: &[u64], t2: &[u64]) {
+    let a = new(b"a new T0: ", t0);
+    let b = update(b"b update T1: ", t1, a);
+    let c = open(b"c open row 0: ", t1, b, 0);
+    let d = open(b"d open row 2: ", t1, c, 2);
+    let e = fetch(b"e fetch row 8: ", t1, d, 8);
+    let f = open(b"f open row 8: ", t1, e, 8);
+    let g = update(b"g update T2: ", t2, f);
+    let h = update(b"h update T2: ", t2, g);
+    let third = update(b"h update T2 again: ", t2, h);
+    let i = close(b"i close row 0: ", third, 0);
+    let j = open(b"j open row 1: ", t2, i, 1);
+    let past = fetch(b"k fetch row 8: ", t2, j, 8);
+    let k = fetch(b"k fetch row 7: ", t2, past, 7);
+    update(b"l update T1: ", t1, k);
+}
+
+// From b, row 0 then row 4, and row 2 then row 0: the same rows; only the nodes' numbers differ.
+fn either_order(t0: &[u64], t1: &[u64]) {
+    let b = update(b"b again: ", t1, tree_list::new(t0).model);
+    let first = open(b"open row 0: ", t1, b, 0);
+    open(b"then row 4: ", t1, first, 4);
+    let other = open(b"open row 2: ", t1, b, 2);
+    open(b"then row 0: ", t1, other, 0);
 }
 
 fn main() {
-    let small: [u64; 20] = [0, 0, 3, 0, 0, 0, 0, 2, 1, 0, 0, 2, 1, 0, 7, 1, 1, 4, 1, 0];
-    show_readable(&small[0..0]);
-    show_readable(&small[0..4]);
-    show_readable(&small[0..5]);
-    show_readable(&small[0..6]);
-    print(b"the small capture, table T1\n");
-    show_children(&small, 0, 3);
-    show_children(&small, 1, 2);
-    show_new(&small[0..4]);
-    show_new(&small);
-    show_new(&[0, 0, 0, 0, 0]);
-    let long = long_table();
-    followed_rows(&long);
+    let t0: [u64; 5] = [0, 0, 0, 0, 0];
+    let t1: [u64; 20] = [0, 0, 3, 0, 0, 0, 0, 2, 1, 0, 0, 2, 1, 0, 7, 1, 1, 4, 1, 0];
+    let t2: [u64; 20] = [0, 0, 5, 1, 0, 0, 0, 2, 1, 0, 0, 2, 3, 0, 8, 1, 1, 4, 1, 0];
+    small_capture(&t0, &t1, &t2);
+    either_order(&t0, &t1);
 }

@@ -17,7 +17,7 @@ use Rattle.model.specs.declared.Log.{Log}
 use Rattle.model.specs.declared.Record.{Record}
 use Rattle.model.specs.declared.RowNumber.{RowNumber}
 use Rattle.model.specs.Places.{depth, logPlaces}
-use Rattle.model.specs.Nodes.{nodeAt, directOf, isOpen, openChild}
+use Rattle.model.specs.Nodes.{directOf, isOpen, openChild}
 use Rattle.model.specs.Rows.{rowTotal, rowAt, place, rowOf}
 use Rattle.model.specs.Settle.{settle}
 use Rattle.model.specs.Sound.{sound}
@@ -26,20 +26,21 @@ use Rattle.model.specs.Answers.{noChange}
 use Rattle.model.specs.Open.{changed}
 use Rattle.model.specs.Close.{closingOrder, closeOne, closeEach, closeNode, answerClose}
 use Rattle.model.proofs.Search.{child-found}
-use Rattle.tree.specs.WellFormed.{Opens, WellFormed}
+use Rattle.tree.specs.WellFormed.{Opens}
 use Rattle.steps.specs.Changes.{closedAt, Bare}
 use Rattle.steps.specs.Settled.{Sound}
 use Rattle.steps.proofs.Closing.{close-well, close-row-total}
-use Rattle.steps.proofs.Quiet.{bare-rows, bare-sym}
+use Rattle.steps.proofs.Quiet.{bare-rows}
 use Rattle.steps.proofs.Settling.{sound-of, settle-given, settle-bare, settle-sound, bare-closed}
 use Rattle.orders.specs.declared.Order.{Order}
 use Rattle.orders.specs.Orders.{Holds}
-use Rattle.orders.proofs.Answers.{step-at, closing-len}
+use Rattle.orders.proofs.Answers.{step-at, closing-len, closing-small}
+use Rattle.edits.proofs.ChildRows.{next-row-fits}
 use Rattle.edits.specs.Closable.{Closable}
-use Rattle.edits.proofs.InnerFirst.{inner-first}
+use Rattle.edits.proofs.InnerFirst.{Ready, inner-first}
 use Rattle.tree_list.specs.Logging.{logged}
 use Rattle.tree_list.proofs.Records.{logged-of}
-use Rattle.tree_list.proofs.Turns.{ready-closable, each-next, each-logged}
+use Rattle.tree_list.proofs.Turns.{ready-closable, ready-direct, each-next, each-logged}
 
 module _ (m : Model) (r : ℕ) where
   pub close-unsound : sound m ≡ false → answerClose m r ≡ noChange 1 m
@@ -68,35 +69,30 @@ module _ (m : Model) (r p k : ℕ) (i : ChildIndex) (d : p ≡ rowAt (m .nodes) 
   pub close-answer : sound m ≡ true → r < rowTotal (m .nodes) → (a : ChangeAnswer) → a ≡ closeNode m k → a ≡ answerClose m r
   close-answer s h a g = g ∙ ap (closeNode m) (f ∙ (λ t. openChild (m .nodes) (d t) (e t .0))) ∙ sym (close-row m r s h)
 
-  pub open-child-opens : k ≢ 0 → Opens (m .nodes) k
-  open-child-opens n = go k f n
-    where
-      go : (j : ℕ) → j ≡ openChild (m .nodes) p (i .0) → j ≢ 0 → Opens (m .nodes) j
-      go zero g n = absurd (n refl)
-      go (suc j) g n = child-found isOpen (m .nodes) p (i .0) j (sym g) .0
+pub open-child-opens : (m : Model) (p i k : ℕ) → k ≡ openChild (m .nodes) p i → k ≢ 0 → Opens (m .nodes) k
+open-child-opens m p i zero e n = absurd (n refl)
+open-child-opens m p i (suc k) e n = child-found isOpen (m .nodes) p i k (sym e) .0
 
--- one node closed: what is logged has numbers that fit, and the model is sound then
-module _ (q : Model) (S : Sound q) where
-  pub closed-sound : (k : ℕ) → Closable (q .nodes) k → Sound (settle (closedAt (q .nodes) k))
-  closed-sound zero C = absurd (omega (arith, C .above))
-  closed-sound (suc k) C =
-      settle-sound (closedAt (q .nodes) (suc k)) (close-well (q .nodes) (S .well) k (C .opens) (C .none))
-      (omega (arith, S .limit, close-row-total (q .nodes) (S .well) k (C .opens) (C .none)))
+-- the model after one node's closing
+closed-sound : (q : Model) → Sound q → (k : ℕ) → Closable (q .nodes) k → Sound (settle (closedAt (q .nodes) k))
+closed-sound q S zero C = absurd (omega (arith, C .above))
+closed-sound q S (suc k) C =
+    settle-sound (closedAt (q .nodes) (suc k)) (close-well (q .nodes) (S .well) k (C .opens) (C .none))
+    (omega (arith, S .limit, close-row-total (q .nodes) (S .well) k (C .opens) (C .none)))
 
 bare-row-of : (ns ms : List Node) → Bare ns ms → (k : ℕ) → rowOf ns k ≡ rowOf ms k
 unfolding rowOf
 bare-row-of ns ms B k = λ t. place (B .node k t .parent) (B .node k t .index) (bare-rows ns ms B t)
 
--- what a node's closing logs
-abbrev pub closingRecord : List Node → ℕ → Record
+-- what a node's closing logs; it looks at no total
+abbrev closingRecord : List Node → ℕ → Record
 closingRecord ns k = rowsChange (suc (rowOf ns k)) (directOf ns k) 0
 
 bare-record : (ns ms : List Node) → Bare ns ms → (k : ℕ) → closingRecord ns k ≡ closingRecord ms k
 bare-record ns ms B k = λ t. rowsChange (suc (bare-row-of ns ms B k t)) (B .node k t .direct) 0
 
--- as the code has it: the row that was found, and the one after it
-pub record-made : (ns : List Node) (k : ℕ) (x : RowNumber) → x ≡ record { 0 = rowOf ns k } → (log : Log) → logged log (rowsChange (x .0 + 1) (directOf ns k) 0) ≡ logged log (closingRecord ns k)
-record-made ns k x e log = ap (λ (r : ℕ). logged log (rowsChange r (directOf ns k) 0)) (ap (λ (y : RowNumber). y .0 + 1) e ∙ add-one (rowOf ns k))
+pub record-below : (log : Log) (r c : ℕ) → logged log (rowsChange (r + 1) c 0) ≡ logged log (rowsChange (suc r) c 0)
+record-below log r c = ap (λ (p : ℕ). logged log (rowsChange p c 0)) (add-one r)
 
 -- after i steps of the order ks
 pub record Closed (ns : List Node) (ks : List ℕ) (i : ℕ) (q : Model) (records : Log) : Type 0 where
@@ -155,23 +151,35 @@ module _ (m : Model) (s : sound m ≡ true) (node : ℕ) (above : 0 < node) (ope
 
   module _ (i : ℕ) (q : Model) (log : Log) (C : Closed (m .nodes) ks i q log) where
     module _ (l : i < r .len) where
-      pub turn-closable : Closable (q .nodes) (getD (r .steps) i 0)
-      turn-closable =
-          rw (step-at r ks h i l)
-          (ready-closable (m .nodes) (q .nodes) (take i ks) (alike (m .nodes) ks i q log C) (getD ks i 0) (inner-first (m .nodes) (sound-of m s .well) node above opens i (omega (arith, h .count))))
+      abbrev k : ℕ
+      k = getD (r .steps) i 0
 
-      pub turn-room : log .len < 512
-      turn-room = omega (arith, log-len (m .nodes) ks i q log C, closing-len (m .nodes) (sound-of m s .well) node above opens r h)
+      ready : Ready (m .nodes) (take i ks) k
+      ready = rw (step-at r ks h i l) (inner-first (m .nodes) (sound-of m s .well) node above opens i (omega (arith, h .count)))
+
+      pub turn-closable : Closable (q .nodes) k
+      turn-closable = ready-closable (m .nodes) (q .nodes) (take i ks) (alike (m .nodes) ks i q log C) k ready
+
+      pub turn-small : k < 256
+      turn-small = closing-small (m .nodes) (sound-of m s .well) node above opens r h i l
+
+      pub turn-asks : (x : RowNumber) → x ≡ record { 0 = rowOf (q .nodes) k } → (log .len < 512) × (suc (x .0) < 2 ^ 64)
+      turn-asks x e = (
+        omega (arith, log-len (m .nodes) ks i q log C, closing-len (m .nodes) (sound-of m s .well) node above opens r h),
+        omega (arith, ap (λ (y : RowNumber). y .0) e, next-row-fits q (C .whole) k turn-closable),
+      )
 
       pub turn-closed :
-          (q′ : Model) (log′ : Log)
-          → q′ ≡ settle (closedAt (q .nodes) (getD (r .steps) i 0))
-          → log′ ≡ logged log (closingRecord (q .nodes) (getD (r .steps) i 0))
+          (x : RowNumber) (q′ : Model) (log′ : Log)
+          → x ≡ record { 0 = rowOf (q .nodes) k }
+          → q′ ≡ settle (closedAt (q .nodes) k)
+          → log′ ≡ logged log (rowsChange (suc (x .0)) (directOf (m .nodes) k) 0)
           → Closed (m .nodes) ks (i + 1) q′ log′
-      turn-closed q′ log′ e f =
+      turn-closed x q′ log′ d e f =
           let z = step-at r ks h i l in
+          let g = f ∙ (λ t. logged log (rowsChange (suc (d t .0)) (ready-direct (m .nodes) (q .nodes) (take i ks) (alike (m .nodes) ks i q log C) k ready t) 0)) in
           rw (add-one i)
-          (closed-again (m .nodes) ks i q log C (omega (arith, h .count)) (omega (arith, closing-len (m .nodes) (sound-of m s .well) node above opens r h)) (rw z at turn-closable) q′ log′ (rw z at e) (rw z at f))
+          (closed-again (m .nodes) ks i q log C (omega (arith, h .count)) (omega (arith, closing-len (m .nodes) (sound-of m s .well) node above opens r h)) (rw z at turn-closable) q′ log′ (rw z at e) (rw z at g))
 
     pub turns-done : r .len ≤ i → _≡_ {A = ChangeAnswer} (record { refusal = 0; model = q; log = log }) (closeNode m node)
     turns-done l =

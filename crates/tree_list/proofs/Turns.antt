@@ -29,7 +29,7 @@ use Rattle.model.specs.Close.{freeBelow, closeOne, closeEach}
 use Rattle.model.proofs.Search.{child-found}
 use Rattle.lists.proofs.Bools.{differ}
 use Rattle.tree.specs.WellFormed.{Opens, up}
-use Rattle.steps.specs.Changes.{closedAt, bare, Bare}
+use Rattle.steps.specs.Changes.{closedAt, Bare}
 use Rattle.steps.proofs.Closing.{length-free, free-at}
 use Rattle.edits.specs.Closable.{Closable}
 use Rattle.edits.proofs.InnerFirst.{Ready}
@@ -94,6 +94,10 @@ ready-closable ns ms ds B k R = record {
         let t = each-open (state ns []) ds (suc c) (ap isOpen (B .node (suc c)) ∙ r .0) in
         let same = sym (t .0) in
         absurd (t .1 (R .children c (ap isOpen same ∙ ap isOpen (B .node (suc c)) ∙ r .0) (ap (λ (n : Node). n .parent) same ∙ ap (λ (n : Node). n .parent) (B .node (suc c)) ∙ r .1)))
+
+-- and has the count that it had
+pub ready-direct : (ns ms : List Node) (ds : List ℕ) → Bare (closeEach (state ns []) ds .nodes) ms → (k : ℕ) → Ready ns ds k → directOf ns k ≡ directOf ms k
+ready-direct ns ms ds B k R = ap (λ (n : Node). n .direct) (sym (each-else (state ns []) ds k (R .fresh) (R .parent))) ∙ ap (λ (n : Node). n .direct) (B .node k)
 
 -- the step after the first i
 pub each-next : (s : State) (ks : List ℕ) (i : ℕ) → i < length ks → closeEach s (take (suc i) ks) ≡ closeOne (closeEach s (take i ks)) (getD ks i 0)

@@ -34,10 +34,6 @@ count-none t e r h =
     let whole : length t % 5 ≡ 0 = eqb-true (length t % 5) 0 (and-right (ltb 0 (length t)) (eqb (length t % 5) 0) r) in
     List·getD-eq-default t 0 {n = 5 * e + 2} (omega arith)
 
-pub count-there : (t : List ℕ) (e : ℕ) → getD t (5 * e + 2) 0 ≡ itemCount t e
-unfolding itemCount
-count-there t e = refl
-
 module _ (t : List ℕ) (n : Node) where
   pub back-away : length t / 5 ≤ n .entry → nodeBack t n ≡ true
   unfolding nodeBack entries

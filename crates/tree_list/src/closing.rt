@@ -12,29 +12,23 @@ use model::RegionAt;
 use model::RowNumber;
 ghost use mathlib.Core.Path.{_≡_};
 ghost use mathlib.Core.Bool.{true};
-ghost use Prim.Native.Nat.{suc, _<_};
-ghost use Rattle.model.specs.Nodes.{directOf};
-ghost use Rattle.model.specs.Rows.{rowOf};
+ghost use Prim.Native.Nat.{suc, _^_, _<_};
 ghost use Rattle.model.specs.Logs.{rowsChange};
 ghost use Rattle.model.specs.Close.{closeNode, answerClose};
 ghost use Rattle.model.specs.Sound.{sound};
 ghost use Rattle.tree.specs.WellFormed.{Opens};
-ghost use Rattle.steps.specs.Settled.{Sound};
-ghost use Rattle.edits.specs.Closable.{Closable};
 ghost use Rattle.tree_list.specs.Logging.{logged};
 
-// One record more: the rows of the node's children go from below its own row.
-fn log_closing(m: Model, node: u64, log: Log) -> Log
-    requires { ⌜ Sound m ⌝ }
-    requires { ⌜ Closable (m .nodes) node ⌝ }
+// One record more: so many rows go from below a row.
+fn log_closing(log: Log, row: RowNumber, count: u64) -> Log
     requires { ⌜ log .len < 512 ⌝ }
-    ensures { λ r. ⌜ r ≡ logged log (rowsChange (suc (rowOf (m .nodes) node)) (directOf (m .nodes) node) 0) ⌝ }
+    requires { ⌜ suc (row .0) < 2 ^ 64 ⌝ }
+    ensures { λ r. ⌜ r ≡ logged log (rowsChange (suc (row .0)) count 0) ⌝ }
 {
-    let row = totals::row_of(m, node);
     let change = Record {
         kind: 1,
         position: row.0 + 1,
-        removed: m.nodes[node as usize].direct,
+        removed: count,
         added: 0,
     };
     log_also(log, change)
@@ -54,7 +48,9 @@ fn close_all(m: Model, node: u64) -> ChangeAnswer
     let mut i: usize = 0;
     while i < count {
         let k = order.steps[i];
-        log = log_closing(q, k, log);
+        // earlier closings may have moved its row; its count is as it was
+        let row = totals::row_of(q, k);
+        log = log_closing(log, row, m.nodes[k as usize].direct);
         q = edits::close_node(q, k);
         i += 1;
     }

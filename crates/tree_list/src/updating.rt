@@ -1,5 +1,6 @@
 // Update: each followed row is visited, unless an item went back or there would be too many rows.
 use crate::answers::no_update;
+use crate::items::item_count;
 use crate::visits::run_visits;
 use model::Model;
 use model::Node;
@@ -20,7 +21,7 @@ ghost use Rattle.steps.specs.Growth.{addedRows};
 ghost use Rattle.tree_list.specs.Updating.{nodeBack, stepBack, stepRows};
 
 // How many children the table gives an entry; none if it isn't there.
-fn item_count(table: &[u64], entry: u64) -> u64
+fn count_or_none(table: &[u64], entry: u64) -> u64
     requires { ⌜ readable (now table) ≡ true ⌝ }
     ensures { λ r. ⌜ r ≡ itemCount (now (table .entry)) entry ⌝ }
 {
@@ -28,7 +29,7 @@ fn item_count(table: &[u64], entry: u64) -> u64
     if entries as u64 <= entry {
         return 0;
     }
-    table[5 * (entry as usize) + 2]
+    item_count(table, entry)
 }
 
 // Whether a node's item went back: it isn't in the table, or has fewer children than recorded.
@@ -81,7 +82,7 @@ fn added_rows(table: &[u64], n: Node) -> u64
     if !n.open {
         return 0;
     }
-    let count = item_count(table, n.entry);
+    let count = count_or_none(table, n.entry);
     if count <= n.direct {
         return 0;
     }

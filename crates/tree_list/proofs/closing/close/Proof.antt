@@ -7,50 +7,33 @@ use Rattle.tree_list.proofs.AnswerClose.{close-unsound, close-past, clo
 use borrow.Author.Needs.{needs}
 use Rattle.tree_list.proofs.closing.close.Statement.{statement}
 use Rattle.tree_list.proofs.closing.close.Tie as tie
-use Rattle.tree_list.proofs.closing.close.Reads as reads
-use Rattle.tree_list.proofs.closing.close.Lts as lts
-use Rattle.nodes.proofs.open_child_of.Reads as open-child-of-reads
-use Rattle.regions.proofs.find_region.Reads as find-region-reads
-use Rattle.sound.proofs.is_sound.Reads as is-sound-reads
-use Rattle.tree_list.proofs.answers.no_change.Reads as no-change-reads
-use Rattle.tree_list.proofs.closing.close_all.Reads as close-all-reads
-use Rattle.tree_list.proofs.rows.index_of.Reads as index-of-reads
-use Rattle.tree_list.proofs.rows.parent_of.Reads as parent-of-reads
 
--- src/closing.rt:71:9
 is-sound-requires : tie.Need-is-sound-requires
 is-sound-requires c κs = search needs
 
--- src/closing.rt:72:9
 no-change-requires : tie.Need-no-change-requires
 no-change-requires c κs = search needs
 
--- src/closing.rt:72:9
 returns : tie.Need-returns
 returns c =
     let s = c .before .before .before in
     c .no-change .ensures ∙ sym (close-unsound (s .args .m) (s .args .row .0) (sym (c .before .before .is-sound .ensures) ∙ not-true _ (c .before .if1 .taken)))
 
--- src/closing.rt:74:31
 find-region-requires : tie.Need-find-region-requires
 find-region-requires c κs =
     let m = c .before .before .args .m in
     let S = sound-of m (sym (c .before .is-sound .ensures) ∙ not-false _ (c .if1 .left)) in
     (sound-laid m S, sound-tiled m S)
 
--- src/closing.rt:74:22
 enum-known-place : tie.Need-enum-known-place
 enum-known-place c = search needs
 
--- src/closing.rt:75:9
 enum-told : tie.Need-enum-told
 enum-told c = search needs
 
--- src/closing.rt:75:9
 no-change-requires-2 : tie.Need-no-change-requires-2
 no-change-requires-2 c κs = search needs
 
--- src/closing.rt:75:9
 returns-2 : tie.Need-returns-2
 returns-2 c =
     let f = c .before .before .before in
@@ -59,27 +42,22 @@ returns-2 c =
     c .no-change2 .ensures
     ∙ sym (close-past (s .args .m) (s .args .row .0) e (row-none (s .args .m) (sound-of (s .args .m) e) (s .args .row .0) (sym (f .find-region .ensures) ∙ c .before .enum-told .given .1)))
 
--- src/closing.rt:77:9
 parent-of-requires : tie.Need-parent-of-requires
 parent-of-requires c κs =
     let f = c .before .before .before in
     (sym (f .before .before .is-sound .ensures) ∙ not-false _ (f .before .if1 .left), sym (f .find-region .ensures) ∙ c .before .place .given .1)
 
--- src/closing.rt:78:9
 index-of-requires : tie.Need-index-of-requires
 index-of-requires c κs =
     let f = c .before .before .before .before in
     (sym (f .before .before .is-sound .ensures) ∙ not-false _ (f .before .if1 .left), sym (f .find-region .ensures) ∙ c .before .before .place .given .1)
 
--- src/closing.rt:79:9
 open-child-of-requires : tie.Need-open-child-of-requires
 open-child-of-requires c κs = search needs
 
--- src/closing.rt:81:9
 no-change-requires-3 : tie.Need-no-change-requires-3
 no-change-requires-3 c κs = search needs
 
--- src/closing.rt:81:9
 returns-3 : tie.Need-returns-3
 returns-3 c =
     let k = c .before .before .open-child-of in
@@ -93,20 +71,15 @@ returns-3 c =
     (found-inside (s .args .m) (sound-of (s .args .m) e) (s .args .row .0) _ h)
     (c .no-change3 .result) (c .no-change3 .ensures ∙ sym (close-none (s .args .m) (k .result) (c .before .if2 .taken)))
 
--- src/closing.rt:83:5
 close-all-requires : tie.Need-close-all-requires
 close-all-requires c κs =
     let k = c .before .open-child-of in
-    let i = c .before .before .index-of in
-    let p = c .before .before .before in
-    let f = p .before .before .before .before in
-    let s = f .before .before .before in
-    (
+    let f = c .before .before .before .before .before .before .before in
+    let s = f .before .before .before in (
       sym (f .before .before .is-sound .ensures) ∙ not-false _ (f .before .if1 .left),
-      (omega (arith, c .if2 .left), open-child-opens (s .args .m) (s .args .row .0) (p .parent-of .result) (k .result) (i .result) (p .parent-of .ensures) (i .ensures) (k .ensures) (c .if2 .left)),
+      (omega (arith, c .if2 .left), open-child-opens (s .args .m) _ _ (k .result) (k .ensures) (c .if2 .left)),
     )
 
--- src/closing.rt:68:1
 returns-4 : tie.Need-returns-4
 returns-4 c =
     let k = c .before .before .open-child-of in

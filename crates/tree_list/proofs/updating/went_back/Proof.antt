@@ -1,5 +1,6 @@
 use mathlib.Core.Path.{sym}
 use Rattle.tree_list.proofs.UpdateTests.{back-away, back-there}
+use Rattle.model.specs.Table.{entries}
 use borrow.Author.Needs.{needs}
 use Rattle.tree_list.proofs.updating.went_back.Statement.{statement}
 use Rattle.tree_list.proofs.updating.went_back.Tie as tie
@@ -10,6 +11,7 @@ returns c =
     sym (back-away (s .args .table .now) (s .args .n) (c .if1 .taken))
 
 item-count-requires : tie.Need-item-count-requires
+unfolding entries
 item-count-requires c κs = search needs
 
 returns-2 : tie.Need-returns-2

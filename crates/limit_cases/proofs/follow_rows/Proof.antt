@@ -1,7 +1,7 @@
 use Prim.Native.Nat.{_≤_, _-_}
 use borrow.Author.Needs.{needs}
-use Rattle.cases.proofs.follow_rows.Statement.{statement}
-use Rattle.cases.proofs.follow_rows.Tie as tie
+use Rattle.limit_cases.proofs.follow_rows.Statement.{statement}
+use Rattle.limit_cases.proofs.follow_rows.Tie as tie
 
 abbrev Inv-loop : tie.InvT-loop
 Inv-loop table q₀ row₀ q row = row ≤ 254

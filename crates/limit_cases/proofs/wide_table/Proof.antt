@@ -2,8 +2,8 @@ use Prim.Native.Nat.{_≤_, _-_}
 use mathlib.Core.Path.{_≡_}
 use lib.ListN.{length}
 use borrow.Author.Needs.{needs}
-use Rattle.cases.proofs.long_table.Statement.{statement}
-use Rattle.cases.proofs.long_table.Tie as tie
+use Rattle.limit_cases.proofs.wide_table.Statement.{statement}
+use Rattle.limit_cases.proofs.wide_table.Tie as tie
 
 abbrev Inv-loop : tie.InvT-loop
 Inv-loop table₀ child₀ table child = (child ≤ 300) × (length table ≡ 1505)
@@ -41,8 +41,8 @@ loop-again c = search needs
 returns : tie.Need-returns Inv-loop μ-loop
 returns c = search needs
 
-pub long-table-spec : {M : Type 1} → statement M
-long-table-spec =
+pub wide-table-spec : {M : Type 1} → statement M
+wide-table-spec =
     tie.close
     (tie.spec
     Inv-loop
