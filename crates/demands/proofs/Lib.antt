@@ -1,3 +1,6 @@
 -- What the user asked for.
+pub mod Answered
+pub mod Preorder
 pub mod Outcomes
 pub mod Kept
+pub mod Determined

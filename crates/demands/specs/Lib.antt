@@ -1,0 +1,2 @@
+-- What the demands are stated with.
+pub mod Refusals
