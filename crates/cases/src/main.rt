@@ -1,5 +1,7 @@
 // The small capture of document 01: cases a to l through the operations, and two rows opened in either order.
 // The file stdout has what it must print.
+#![tactic(auto)]
+
 use model::{ChangeAnswer, Model, RowNumber};
 use printing::{log, number, state, text};
 

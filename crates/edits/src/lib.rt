@@ -1,5 +1,7 @@
 // Steps of the operations carried out in place, as the Rust does: the nodes, the totals up the chain, the
 // regions and the published count are edited, and the model ends as its new nodes give it.
+#![tactic(auto)]
+
 mod closed;
 mod grown;
 mod opened;

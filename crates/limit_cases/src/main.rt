@@ -1,5 +1,7 @@
 // Cases at the limits, through the operations: tables that are refused, 255 followed rows, the most rows there can be, and a
 // chain of 255 open rows. The file stdout has what it must print.
+#![tactic(auto)]
+
 use model::{Log, Model, RowNumber};
 use printing::{number, text};
 

@@ -1,6 +1,8 @@
 // The leaves over nodes: which are in use, which is whose child, and which number is free.
 //
 // Node 0 is the capture: always in use, and nobody's child. So the number 0 answers "none".
+#![tactic(auto)]
+
 ghost use Rattle.std.specs.Prelude.{◌≡◌, ◌&&◌};
 ghost use Rattle.model.specs.Nodes.{no_node, is_open, used, stands_at, child, open_child, free};
 

@@ -1,5 +1,7 @@
 // 255 nested rows, each open and ongoing, through both orders: no model is deeper. Measured, a stack of
 // 128 KB is enough.
+#![tactic(auto)]
+
 ghost use Rattle.std.specs.Prelude.{◌≡◌, ◌-◌};
 ghost use Rattle.tree.specs.WellFormed.{WellFormed, Opens};
 ghost use Rattle.order_cases.specs.Chain.{chain_node, chain_nodes};

@@ -2,6 +2,8 @@
 //
 // The recursions read lent columns of numbers and write numbers, so that each level takes little of
 // the stack; the model by value stays outside them.
+#![tactic(auto)]
+
 ghost use Rattle.std.specs.Prelude.{◌≡◌, ◌+◌, ◌<◌, ◌≤◌, length, get_or};
 ghost use Rattle.model.specs.Places.{depth};
 ghost use Rattle.model.specs.Close.{closing_order};

@@ -1,7 +1,7 @@
 -- Opening, closing and growing as functions: they do what the records say, keep a shape rooted, and commute for paths apart.
 use mathlib.Core.Path.{◌≡◌, refl, sym, ◌∙◌, fun_ext}
 use mathlib.Core.Logic.{◌⊎◌, inl, inr, ◌≢◌}
-use mathlib.Core.Bool.{Bool, true, false, cond, not, ◌&&◌, ◌||◌, true≢false, false≢true, and_true, and_false, or-true, or-false}
+use mathlib.Core.Bool.{Bool, true, false, cond, not, ◌&&◌, ◌||◌, true≢false, false≢true, and-true, and-false, or-true, or-false}
 use mathlib.Core.List.{[]}
 use Prim.Native.Nat.{ℕ, ◌+◌, ◌<◌}
 use native.Mathlib.Omega.{arith}
@@ -49,8 +49,8 @@ module _ (t : Shape) (q : Path) (c : ℕ) where
 
 pub close_at_closed : (t : Shape) (q : Path) → Closed t (close_at q t) q
 close_at_closed t q = record {
-  shut = λ x u. rw (holds_yes (dec_under q x) u, and_false);
-  open_else = λ x n. rw (holds_no (dec_under q x) n, and_true);
+  shut = λ x u. rw (holds_yes (dec_under q x) u, and-false);
+  open_else = λ x n. rw (holds_no (dec_under q x) n, and-true);
   count_else = λ x n. refl;
 }
 
@@ -77,11 +77,11 @@ module _ (t : Shape) (w : Rooted t) where
 
   pub close_at_rooted : (q : Path) → Showing t q → Rooted (close_at q t)
   close_at_rooted q s = record {
-    root = rw (holds_no (dec_under q []) not_root, and_true) w.root;
+    root = rw (holds_no (dec_under q []) not_root, and-true) w.root;
     step = λ p i o.
         let k = and_holds (t.is_open (p · i)) (dec_under q (p · i)) o in
         let m = w.step p i k.0 in
-        (rw (holds_no (dec_under q p) (λ u. k.1 (inr (under_child q p i u))), and_true) m.0, m.1);
+        (rw (holds_no (dec_under q p) (λ u. k.1 (inr (under_child q p i u))), and-true) m.0, m.1);
   }
     where
       not_root : Under q [] → ⊥
@@ -123,14 +123,14 @@ module _ (t : Shape) (p q : Path) (apart₁ : Under p q → ⊥) (apart₂ : Und
     where
       opens : (x : Path) (v : Bool) (a : Dec (x ≡ p)) (b : Dec (Under q x)) → v && not (holds b) || holds a ≡ (v || holds a) && not (holds b)
       opens x v (yes e) (yes u) = absurd (apart₂ (rw e at u))
-      opens x v (yes e) (no n) = simp (and_true, or-true)
-      opens x v (no m) (yes u) = simp and_false
-      opens x v (no m) (no n) = simp (and_true, or-false)
+      opens x v (yes e) (no n) = simp (and-true, or-true)
+      opens x v (no m) (yes u) = simp and-false
+      opens x v (no m) (no n) = simp (and-true, or-false)
 
   pub close_close : close_at p (close_at q t) ≡ close_at q (close_at p t)
   close_close = shape_same (close_at p (close_at q t)) (close_at q (close_at p t)) (λ x. refl) (λ x. opens (t.is_open x) (not (holds (dec_under p x))) (not (holds (dec_under q x))))
     where
       opens : (v a b : Bool) → v && b && a ≡ v && a && b
       opens false a b = refl
-      opens true true b = and_true b
-      opens true false b = and_false b
+      opens true true b = and-true b
+      opens true false b = and-false b

@@ -15,6 +15,8 @@ ext_lt (same e h) = same e (ext_lt h)
 
 -- nothing else lies between a path and its extensions
 pub ext_beyond : {p y : Path} (z : Path) → Ext p z → Lt p y → (Ext p y → ⊥) → Lt z y
+ext_beyond [] x (less {y = c} {p = p} {q = q} h) n = elim x [ ]
+ext_beyond [] x (same {y = y} {p = p} {q = q} d h) n = elim x [ ]
 ext_beyond z x stop n = absurd (n stop)
 ext_beyond (b ∷ z) (same e x) (less {y = c} h) n = less {x = b} {y = c} (omega arith)
 ext_beyond (b ∷ z) (same e x) (same d h) n = same (sym e ∙ d) (ext_beyond z x h (λ k. n (same d k)))
@@ -128,6 +130,7 @@ lt_child p x i h = go (lt_total x p) (dec_ext p x)
 
 -- two paths with a common extension
 pub ext_comparable : (p q x : Path) → Ext p x → Ext q x → Under p q ⊎ Under q p
+ext_comparable (a ∷ p) (b ∷ q) [] h k = elim h [ ]
 ext_comparable [] [] x h k = inl (inl refl)
 ext_comparable [] (b ∷ q) x h k = inl (inr stop)
 ext_comparable (a ∷ p) [] x h k = inr (inr stop)

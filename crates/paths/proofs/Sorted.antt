@@ -69,6 +69,7 @@ sorted_right [] s = s
 sorted_right (x ∷ l) (cons a s) = sorted_right l s
 
 pub sorted_across : (l : List Path) {m : List Path} → Sorted (l ++ m) → (x y : Path) → In x l → In y m → Lt x y
+sorted_across [] {m = m} _ x y x6 n = elim x6 [ ]
 sorted_across (z ∷ l) (cons a s) x y (here e) n = rw e (a y (on-right l n))
 sorted_across (z ∷ l) (cons a s) x y (there k) n = sorted_across l s x y k n
 
@@ -166,6 +167,7 @@ at_unique s r k q a b = sym (row_at s r q a) ∙ row_at s k q b
 
 -- a member is there once
 pub number_once : {l : List Path} → Sorted l → (q : Path) → In q l → number (λ x. dec_eq x q) l ≡ 1
+number_once nil q k = elim k [ ]
 number_once (cons {x = y} {xs = l} a s) q k = go (cases k) (dec_eq y q) (number_once s q)
   where
     go : (q ≡ y) ⊎ In q l → (c : Dec (y ≡ q)) → (In q l → number (λ x. dec_eq x q) l ≡ 1) → length (ite {C = List Path} c (y ∷ filter (λ x. dec_eq x q) l) (filter (λ x. dec_eq x q) l)) ≡ 1

@@ -31,6 +31,7 @@ Under p x = (x ≡ p) ⊎ Ext p x
 -- the order is total, and all of this is decided
 
 pub lt_irrefl : (p : Path) → Lt p p → ⊥
+lt_irrefl [] x' = elim x' [ ]
 lt_irrefl (x ∷ p) (less h) = omega arith
 lt_irrefl (x ∷ p) (same e h) = lt_irrefl p h
 

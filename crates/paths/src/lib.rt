@@ -1,1 +1,2 @@
 // Paths, their order, and the trees that they make: definitions in specs/, laws in proofs/.
+#![tactic(auto)]

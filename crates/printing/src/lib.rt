@@ -1,4 +1,6 @@
 // What a person reads of answers: numbers, logs, regions. All of it goes to standard output.
+#![tactic(auto)]
+
 use libc::STDOUT_FILENO;
 use model::{Log, Model, Record, Region};
 

@@ -1,4 +1,6 @@
 // The region map: which rows are children of which node. Regions stand in ascending order of their starts.
+#![tactic(auto)]
+
 ghost use Rattle.std.specs.Prelude.{◌≡◌, ℕ, ◌+◌, ◌<◌, ◌≤◌, ◌^◌, length, take, set};
 ghost use Rattle.model.specs.Places.{region_places};
 ghost use Rattle.runs.specs.Edits.{map_from, insert_at, remove_at};

@@ -3,6 +3,8 @@
 // Each part goes over the model once: the places and the totals in a pass over the nodes each, the regions in
 // one walk along the rows, and twins over pairs of nodes. No number is added before it is known to fit. No chain
 // of parents is climbed: a total is below its parent's, so right totals let no chain go round.
+#![tactic(auto)]
+
 ghost use Rattle.std.specs.Prelude.{◌≡◌, true, cond, ◌+◌, ◌<◌, ◌≤◌, drop, ltb};
 ghost use Rattle.model.specs.Nodes.{node_at, used};
 ghost use Rattle.model.specs.Rows.{row_total};

@@ -1,4 +1,6 @@
 // Sound models, and models with one fault each: the refusal that a count of each gives, a line for each.
+#![tactic(auto)]
+
 use model::{Model, Node, Region};
 
 fn say(name: &[u8], m: Model) {

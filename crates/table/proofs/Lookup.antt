@@ -5,7 +5,7 @@ use native.Mathlib.Numerals.{add-one}
 use native.Mathlib.Omega.{arith}
 use mathlib.Core.Path.{◌≡◌, refl, ap, sym, ◌∙◌}
 use mathlib.Core.Logic.{◌⊎◌, inl, inr}
-use mathlib.Core.Bool.{Bool, true, false, cond, ◌&&◌, and_false}
+use mathlib.Core.Bool.{Bool, true, false, cond, ◌&&◌, and-false}
 use mathlib.Core.List.{List, []}
 use lib.Dec.{eqb}
 use lib.ListN.{length, get_or, take, drop, length-drop}
@@ -29,7 +29,7 @@ module _ (t : List ℕ) (p i n e : ℕ) (inside : e < n) where
   miss_parent f = miss (rw (add-zero, ne_eqb _ _ f))
 
   pub miss_index : (get_or t (5 * e + 1) 0 ≡ i → ⊥) → first_entry t p i (n - e) e ≡ first_entry t p i (n - (e + 1)) (e + 1)
-  miss_index f = miss (rw (ne_eqb _ _ f, and_false))
+  miss_index f = miss (rw (ne_eqb _ _ f, and-false))
 
 pub end : (t : List ℕ) (p i n e : ℕ) → n ≤ e → first_entry t p i (n - e) e ≡ 0
 unfolding first_entry

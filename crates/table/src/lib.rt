@@ -1,6 +1,8 @@
 // The source table, as the caller lends it: whether it can be read, and where a child stands in it.
 //
 // No public function has a `requires`. The table is only read.
+#![tactic(auto)]
+
 ghost use Rattle.std.specs.Prelude.{◌≡◌};
 ghost use Rattle.model.specs.Table.{readable, child_entry, child_words};
 

@@ -1,4 +1,6 @@
 // Totals of open nodes: the rows between two children, the row of a node, and totals kept up the chain.
+#![tactic(auto)]
+
 ghost use Rattle.std.specs.Prelude.{◌<◌, ◌≤◌, ◌^◌, ◌≡◌, cond};
 ghost use Rattle.model.specs.Places.{depth};
 ghost use Rattle.model.specs.Rows.{row_of};

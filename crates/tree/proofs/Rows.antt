@@ -38,6 +38,7 @@ use Rattle.tree.proofs.Listing.{path_is, front_child, open_child_lem, shut_child
 -- the place of a row that is there
 place_in : (p i : ℕ) (rs : List Row) → In (p, i) rs → (place p i rs < length rs) × (get_or rs (place p i rs) (0, 0) ≡ (p, i))
 unfolding place
+place_in p i [] m = elim m [ ]
 place_in p i (r ∷ rs) m = go (eqb r.0 p && eqb r.1 i) refl m (place_in p i rs)
   where
     pair : (eqb r.0 p && eqb r.1 i) ≡ true → r ≡ (p, i)
