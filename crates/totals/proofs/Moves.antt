@@ -16,7 +16,7 @@ use Rattle.steps.specs.Settled.{with_nodes}
 use Rattle.totals.specs.Totals.{moved, Movable, moved_above, Above, AllMovable}
 use Rattle.paths.proofs.Order.{length_child}
 use Rattle.tree.proofs.Find.{to_up, above_used, reach_up, reach_never, reach_deep}
-use Rattle.tree.proofs.Over.{over_up, up≢}
+use Rattle.tree.proofs.Over.{over_up}
 use Rattle.tree.proofs.WellFormed.{used_small}
 use Rattle.tree.specs.Paths.{to, Over, here, step}
 use Rattle.tree.specs.WellFormed.{Used, up, ix, WellFormed}

@@ -1,5 +1,5 @@
 -- What is worked out from the totals of open nodes, and how they are kept.
-use Rattle.std.specs.Prelude.{ℕ, zero, suc, ◌+◌, ◌-◌, ◌^◌, ◌<◌, ◌≤◌, ◌≡◌, Bool, true, false, cond, ◌&&◌, List, [], ◌∷◌, drop, set, eqb, ltb, leb}
+use Rattle.std.specs.Prelude.{ℕ, zero, suc, ◌+◌, ◌-◌, ◌^◌, ◌<◌, ◌≤◌, Bool, true, false, cond, ◌&&◌, List, [], ◌∷◌, drop, set, eqb, ltb, leb}
 use Rattle.model.specs.declared.Node.{Node}
 use Rattle.model.specs.Nodes.{node_at, is_open, with_total}
 use Rattle.tree.specs.Paths.{Over}
