@@ -7,7 +7,8 @@ use mathlib.Core.List.{List, [], Memᴰ as In}
 use lib.ListN.{length, get_or, take, drop, length-take, length-drop}
 use lib.Seq.{get_or-take, get_or-drop}
 use Rattle.lists.proofs.Edits.{get_or_in}
-use Rattle.paths.specs.Order.{Path, ◌·◌, Lt, Ext, Under, lt_irrefl, lt_trans}
+use Rattle.paths.specs.Order.{Path, ◌·◌, Lt, Ext, Under}
+use Rattle.paths.proofs.Decided.{lt_irrefl, lt_trans}
 use Rattle.paths.specs.Listings.{At}
 use Rattle.paths.proofs.Order.{ext_parent, under_child, ext_branch, branch_lt, lt_child}
 use Rattle.paths.proofs.Sorted.{at_in, at_after, cut_low, cut_high}

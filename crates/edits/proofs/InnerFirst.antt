@@ -25,7 +25,8 @@ use Rattle.model.specs.declared.Node.{Node}
 use Rattle.model.specs.Places.{longest_chain, depth}
 use Rattle.model.specs.Nodes.{is_open, direct_of, open_child, keep, children_from, children}
 use Rattle.model.specs.Close.{closing_order}
-use Rattle.paths.specs.Order.{Path, ◌·◌, Under, lt_irrefl}
+use Rattle.paths.specs.Order.{Path, ◌·◌, Under}
+use Rattle.paths.proofs.Decided.{lt_irrefl}
 use Rattle.paths.proofs.Order.{child_ext, under_ext, ext_longer, length_child, branch_lt}
 use Rattle.tree.specs.Paths.{to, From}
 use Rattle.tree.specs.WellFormed.{Opens, up, ix, WellFormed}

@@ -19,7 +19,8 @@ use Rattle.orders.proofs.Codes.{visit_none, visit_some}
 use Rattle.lists.proofs.Pigeonhole.{pigeonhole}
 use Rattle.model.proofs.Search.{child_found}
 use Rattle.paths.proofs.Order.{child_ext, under_ext, branch_lt, ext_irrefl, length_child}
-use Rattle.paths.specs.Order.{Path, ◌·◌, Ext, Under, lt_irrefl}
+use Rattle.paths.specs.Order.{Path, ◌·◌, Ext, Under}
+use Rattle.paths.proofs.Decided.{lt_irrefl}
 use Rattle.tree.proofs.Find.{to_up, chain_length, reach_all}
 use Rattle.tree.proofs.WellFormed.{open_used, used_small, zero_open}
 use Rattle.tree.specs.Paths.{to, From}

@@ -11,7 +11,8 @@ use native.Mathlib.Decide.{dec_lt}
 use lib.ListN.{take, drop, take-append-drop}
 use Rattle.lists.proofs.Filters.{filter_in, filter_has}
 use Rattle.lists.proofs.Edits.{remove_insert}
-use Rattle.paths.specs.Order.{Path, ◌·◌, Lt, Ext, Under, lt_trans, lt_total, dec_eq, dec_ext}
+use Rattle.paths.specs.Order.{Path, ◌·◌, Lt, Ext, Under, dec_eq, dec_ext}
+use Rattle.paths.proofs.Decided.{lt_trans, lt_total}
 use Rattle.paths.specs.Shapes.{Shape, Open, Rooted, Showing, Opened, Closed, Grown}
 use Rattle.paths.specs.Listings.{Lists, At, total, row, child_paths}
 use Rattle.paths.proofs.Order.{ext_lt, ext_beyond, ext_irrefl, child_ext, child_lt, ext_parent, under_child, ext_branch, branch_lt}

@@ -1,3 +1,4 @@
+pub mod Decided
 pub mod Order
 pub mod Sorted
 pub mod Listings

@@ -8,7 +8,8 @@ use mathlib.Core.List.{List, [], ◌∷◌, ◌++◌, append-nil, Memᴰ as In}
 use Prim.Native.Nat.{ℕ, suc, ◌<◌}
 use lib.ListN.{take, drop, take-append-drop}
 use lib.Seq.{append_snoc}
-use Rattle.paths.specs.Order.{Path, ◌·◌, Lt, Ext, stop, Under, lt_trans}
+use Rattle.paths.specs.Order.{Path, ◌·◌, Lt, Ext, stop, Under}
+use Rattle.paths.proofs.Decided.{lt_trans}
 use Rattle.paths.specs.Shapes.{Shape, Open, Rooted, Showing}
 use Rattle.paths.specs.Listings.{Sorted, Lists, At}
 use Rattle.paths.proofs.Order.{ext_lt, ext_beyond, ext_rest, ext_parent, child_inj, child_not_nil}

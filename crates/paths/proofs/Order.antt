@@ -6,7 +6,8 @@ use Prim.Native.Nat.{ℕ, suc, ◌<◌}
 use native.Mathlib.Omega.{arith}
 use lib.ListN.{length, length-append}
 use Rattle.lists.proofs.Numbers.{three}
-use Rattle.paths.specs.Order.{Path, ◌·◌, Lt, stop, less, same, Ext, Under, lt_irrefl, lt_trans, lt_total, dec_ext}
+use Rattle.paths.specs.Order.{Path, ◌·◌, Lt, stop, less, same, Ext, Under, dec_ext}
+use Rattle.paths.proofs.Decided.{lt_irrefl, lt_trans, lt_total}
 
 -- a path is before what extends it
 pub ext_lt : {p q : Path} → Ext p q → Lt p q

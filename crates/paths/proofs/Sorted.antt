@@ -25,7 +25,8 @@ use lib.Seq.{take-suc, split_at, take-nil, drop-nil, length-take-le, get_or-take
 use Rattle.lists.specs.Counts.{number}
 use Rattle.lists.proofs.Filters.{filter_in, filter_none, number_append, number_all, number_none}
 use Rattle.lists.proofs.Edits.{take_insert}
-use Rattle.paths.specs.Order.{Path, ◌·◌, Lt, lt_irrefl, lt_trans, dec_eq}
+use Rattle.paths.specs.Order.{Path, ◌·◌, Lt, dec_eq}
+use Rattle.paths.proofs.Decided.{lt_irrefl, lt_trans}
 use Rattle.paths.specs.Listings.{Sorted, nil, cons, At, lower, row, child_paths}
 use Rattle.paths.proofs.Order.{child_lt}
 

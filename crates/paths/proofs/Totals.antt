@@ -11,7 +11,8 @@ use lib.ListN.{length, take, drop}
 use Rattle.lists.specs.Counts.{sum}
 use Rattle.lists.proofs.Numbers.{sum_zero, sum_suc}
 use Rattle.lists.proofs.Filters.{filter_in, filter_has, number_all, number_none, number_either, number_insert}
-use Rattle.paths.specs.Order.{Path, ◌·◌, Lt, Ext, Under, lt_irrefl, lt_trans, dec_eq, dec_ext, dec_under}
+use Rattle.paths.specs.Order.{Path, ◌·◌, Lt, Ext, Under, dec_eq, dec_ext, dec_under}
+use Rattle.paths.proofs.Decided.{lt_irrefl, lt_trans}
 use Rattle.paths.specs.Shapes.{Shape, Open, Rooted, Showing, Closed}
 use Rattle.paths.specs.Listings.{Lists, lower, total, row, child_paths}
 use Rattle.paths.proofs.Order.{ext_lt, child_ext, child_lt, ext_trans, ext_irrefl, ext_parent, ext_comparable, ext_branch, branch_lt, branch_below, lt_child}

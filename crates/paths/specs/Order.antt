@@ -1,9 +1,8 @@
 -- Paths and their order: the dictionary order, in which a path comes before its extensions.
-use Rattle.std.specs.Prelude.{◌≡◌, refl, ◌⊎◌, ℕ, ◌<◌}
-use Rattle.std.proofs.Common.{sym, ◌∙◌, inl, inr, arith}
+use Rattle.std.specs.Prelude.{◌≡◌, ◌⊎◌, ℕ, ◌<◌}
+use Rattle.std.proofs.Common.{inl, inr}
 use mathlib.Core.List.{List, [], ◌∷◌, ◌++◌, List-discrete}
-use Rattle.std.proofs.Math.Decide.{ℕ_discrete}
-use Rattle.lists.proofs.Numbers.{three}
+use Rattle.std.proofs.Math.Decide.{ℕ_discrete, dec_lt}
 
 -- a row's path is the chain of child indices down to it
 abbrev pub Path : Type 0
@@ -28,41 +27,29 @@ pub data Ext : Path → Path → Type 0 where
 abbrev pub Under : Path → Path → Type 0
 Under p x = (x ≡ p) ⊎ Ext p x
 
--- the order is total, and all of this is decided
+-- all of this is decided
 
-pub lt_irrefl : (p : Path) → Lt p p → ⊥
-lt_irrefl [] x' = elim x' [ ]
-lt_irrefl (x ∷ p) (less h) = omega arith
-lt_irrefl (x ∷ p) (same e h) = lt_irrefl p h
+dec_below : {x y : ℕ} → Dec (x < y)
+dec_below {x = x} {y = y} = dec_lt x y
 
-pub lt_trans : {p q r : Path} → Lt p q → Lt q r → Lt p r
-lt_trans stop (less h) = stop
-lt_trans stop (same e k) = stop
-lt_trans (less {x = x} h) (less {y = z} k) = less {x = x} {y = z} (omega arith)
-lt_trans (less {x = x} h) (same {y = z} e k) = less {x = x} {y = z} (omega arith)
-lt_trans (same {x = x} e h) (less {y = z} k) = less {x = x} {y = z} (omega arith)
-lt_trans (same e h) (same d k) = same (e ∙ d) (lt_trans h k)
+dec_both : {A B : Type 0} → Dec A → Dec B → Dec (A × B)
+dec_both (yes a) (yes b) = yes (a, b)
+dec_both (yes a) (no n) = no (λ s. n s.1)
+dec_both (no n) d = no (λ s. n s.0)
 
-pub lt_total : (p q : Path) → Lt p q ⊎ ((p ≡ q) ⊎ Lt q p)
-lt_total [] [] = inr (inl refl)
-lt_total [] (y ∷ q) = inl stop
-lt_total (x ∷ p) [] = inr (inr stop)
-lt_total (x ∷ p) (y ∷ q) = go (three x y) (lt_total p q)
-  where
-    go : (x < y) ⊎ ((x ≡ y) ⊎ (y < x)) → Lt p q ⊎ ((p ≡ q) ⊎ Lt q p) → Lt (x ∷ p) (y ∷ q) ⊎ ((x ∷ p ≡ y ∷ q) ⊎ Lt (y ∷ q) (x ∷ p))
-    go (inl h) r = inl (less h)
-    go (inr (inl e)) (inl h) = inl (same e h)
-    go (inr (inl e)) (inr (inl d)) = inr (inl (cc))
-    go (inr (inl e)) (inr (inr h)) = inr (inr (same (sym e) h))
-    go (inr (inr h)) r = inr (inr (less h))
+-- what has two ways to hold, of which each is decided
+dec_either : {A B C : Type 0} → (A → C) → (B → C) → (C → A ⊎ B) → Dec A → Dec B → Dec C
+dec_either f g h (yes a) d = yes (f a)
+dec_either f g h (no n) (yes b) = yes (g b)
+dec_either f g h (no n) (no m) = no (λ c. elim (h c) [ inl a ↦ n a | inr b ↦ m b ])
 
 pub dec_lt_lem : (p q : Path) → Dec (Lt p q)
-dec_lt_lem p q = go (lt_total p q)
-  where
-    go : Lt p q ⊎ ((p ≡ q) ⊎ Lt q p) → Dec (Lt p q)
-    go (inl h) = yes h
-    go (inr (inl e)) = no (λ h. lt_irrefl q (rw e at h))
-    go (inr (inr k)) = no (λ h. lt_irrefl p (lt_trans h k))
+dec_lt_lem [] [] = no (λ h. elim h [ ])
+dec_lt_lem [] (y ∷ q) = yes stop
+dec_lt_lem (x ∷ p) [] = no (λ h. elim h [ ])
+dec_lt_lem (x ∷ p) (y ∷ q) =
+    dec_either (less {x = x} {y = y} {p = p} {q = q}) (λ s. same s.0 s.1) (λ h. elim h [ less k ↦ inl k | same e k ↦ inr (e, k) ])
+    dec_below (dec_both (ℕ_discrete x y) (dec_lt_lem p q))
 
 pub dec_ext : (p q : Path) → Dec (Ext p q)
 dec_ext [] [] = no (λ h. elim h [ ])

@@ -22,7 +22,8 @@ use Rattle.steps.proofs.Replay.{tells_out, tale_refl, tale_trans, tale_if, tale_
 use Rattle.lists.proofs.Bools.{differ}
 use Rattle.lists.proofs.Numbers.{count_less}
 use Rattle.paths.proofs.Order.{child_ext, under_ext, ext_longer, length_child, branch_lt}
-use Rattle.paths.specs.Order.{Path, ◌·◌, Ext, Under, lt_irrefl}
+use Rattle.paths.specs.Order.{Path, ◌·◌, Ext, Under}
+use Rattle.paths.proofs.Decided.{lt_irrefl}
 use Rattle.tree.proofs.Find.{open_length}
 use Rattle.tree.proofs.Listing.{open_child_lem, length_paths, open_at_lem}
 use Rattle.runs.proofs.Search.{length_stretch}

@@ -31,7 +31,8 @@ use Rattle.model.proofs.Search.{child_found}
 use Rattle.paths.proofs.Order.{child_ext, under_ext, length_child, branch_lt}
 use Rattle.paths.proofs.Sorted.{child_paths_length}
 use Rattle.paths.specs.Listings.{child_paths}
-use Rattle.paths.specs.Order.{Path, ◌·◌, Under, lt_irrefl}
+use Rattle.paths.specs.Order.{Path, ◌·◌, Under}
+use Rattle.paths.proofs.Decided.{lt_irrefl}
 use Rattle.tree.proofs.Find.{to_up, chain_length, reach_all}
 use Rattle.tree.proofs.Listing.{length_paths}
 use Rattle.tree.proofs.Rows.{row_of_lem, end_fits}

@@ -7,7 +7,6 @@ use mathlib.Core.List.Memᴰ.{append_left as on-left}
 use mathlib.Core.List.Memᴰ.{append_right as on-right}
 use mathlib.Core.List.Memᴰ.{eq_of_singleton as only}
 use mathlib.Core.List.Memᴰ.{head as here}
-use mathlib.Core.List.Memᴰ.{map as in_map}
 use mathlib.Core.List.Memᴰ.{not-nil}
 use mathlib.Core.List.Memᴰ.{of_map}
 use mathlib.Core.List.{
