@@ -1,58 +1,60 @@
 // What a person reads of answers: numbers, logs, regions. All of it goes to standard output.
 #![tactic(auto)]
 
-use libc::STDOUT_FILENO;
 use model::{Log, Model, Record, Region};
+use std::io;
 
-pub fn text(words: &[u8]) {
-    io::write_all(STDOUT_FILENO, words);
+pub fn text(rt: &impl Print, words: &[u8]) -> io::Result<()> {
+    rt.write_all(words)
 }
 
 // A number with words before it.
-pub fn number(words: &[u8], n: u64) {
-    text(words);
-    io::print_decimal(STDOUT_FILENO, n);
+pub fn number(rt: &impl Print, words: &[u8], n: u64) -> io::Result<()> {
+    text(rt, words)?;
+    print!(rt; "{n}")
 }
 
-fn record(x: Record) {
-    number(b" (", x.kind);
-    number(b",", x.position);
-    number(b",", x.removed);
-    number(b",", x.added);
-    text(b")");
+fn record(rt: &impl Print, x: Record) -> io::Result<()> {
+    number(rt, b" (", x.kind)?;
+    number(rt, b",", x.position)?;
+    number(rt, b",", x.removed)?;
+    number(rt, b",", x.added)?;
+    text(rt, b")")
 }
 
 // The records of a log, at most 512.
-pub fn log(l: Log) {
-    text(b" log");
+pub fn log(rt: &impl Print, l: Log) -> io::Result<()> {
+    text(rt, b" log")?;
     let mut i: usize = 0;
     while i < 512 {
         if l.len <= i as u64 {
-            return;
+            return Ok(());
         }
-        record(l.records[i]);
+        record(rt, l.records[i])?;
         i += 1;
     }
+    Ok(())
 }
 
 // A region as start:node+offset*length.
-fn region(g: Region) {
-    number(b" ", g.start);
-    number(b":", g.node);
-    number(b"+", g.offset);
-    number(b"*", g.length);
+fn region(rt: &impl Print, g: Region) -> io::Result<()> {
+    number(rt, b" ", g.start)?;
+    number(rt, b":", g.node)?;
+    number(rt, b"+", g.offset)?;
+    number(rt, b"*", g.length)
 }
 
 // The published count and the regions of a model, at most 512.
-pub fn state(m: Model) {
-    number(b" total ", m.published);
-    text(b" regions");
+pub fn state(rt: &impl Print, m: Model) -> io::Result<()> {
+    number(rt, b" total ", m.published)?;
+    text(rt, b" regions")?;
     let mut i: usize = 0;
     while i < 512 {
         if m.region_count <= i as u64 {
-            return;
+            return Ok(());
         }
-        region(m.regions[i]);
+        region(rt, m.regions[i])?;
         i += 1;
     }
+    Ok(())
 }
