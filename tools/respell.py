@@ -12,7 +12,7 @@ import sys
 
 ITEM = re.compile(
     r'^(?:abbrev |unfoldable )?(?:pub )?(?:ruleset )?([^\s(){}:=]+)(?= (?:\{[^=\n]*)?(?:\([^=\n]*)?:)|'
-    r'^  (?:pub )?([a-z][^\s(){}:=]*)(?= :)|^ruleset (?:pub )?([^\s(){}:=]+)', re.M)
+    r'^  +(?:abbrev |unfoldable )?(?:pub )?([a-z][^\s(){}:=]*)(?= :)|^ruleset (?:pub )?([^\s(){}:=]+)', re.M)
 TOKEN = re.compile(r"[^\s(){}\[\],.;:«»`\"]+")
 KEYWORDS = {'use', 'open', 'mod', 'pub', 'where', 'let', 'in', 'record', 'data', 'unfolding'}
 
@@ -36,7 +36,7 @@ MADE = re.compile(r'^(visit|walk)-(add|mul|sub|element|loop|returns|calls|Pre|al
 LEMMAS = {'child-total', 'fetch-row', 'first-row', 'logged-when', 'moved-above', 'nodes-ok', 'open-child', 'path-row',
           'row-total', 'same-model', 'same-node', 'same-region', 'seek-from', 'sum-up', 'total-moved', 'row-of',
           'dec-lt', 'end-of', 'is-sound', 'next-child', 'open-at', 'same-list', 'rows-below', 'step-open',
-          'visit-step'}
+          'visit-step', 'close-all', 'with-regions'}
 
 
 def renames():
@@ -49,10 +49,10 @@ def renames():
             if not is_ours(name) or MADE.match(name):
                 continue
             line = match.string[match.start():].split('\n', 1)[0]
-            if walked and (': tie.' in line or name.endswith('-spec') or 'statement' in line):
+            if walked and (': tie.' in line or ': goal.' in line or name.endswith('-spec') or 'statement' in line):
                 continue
             found.setdefault(name, snake(name) + ('_lem' if name in LEMMAS else ''))
-    found.update({name: snake(name) for name in ('allVisits', 'zeroModel', 'opensBelow')})
+    found.update({name: snake(name) for name in ('allVisits', 'zeroModel')})
     return found
 
 

@@ -32,18 +32,18 @@ total_rows ns w (suc k) o = omega (arith, end_fits ns w (suc k) o)
 module _ (ns : List Node) (w : WellFormed ns) where
   -- the chain of a node that is kept is the same in both lists
   module _ (ms : List Node) (K : Keeps ns ms) where
-    pub over-to : (j k : ℕ) → Used ns k → Over ns j k → Over ms j k
-    over-to j k u (here e) = here e
-    over-to j k u (step {k = i} v) = step {k = i} (rw (K.same_up (suc i) u) (over-to j (up ns (suc i)) (above_used ns w i u) v))
+    pub over_to : (j k : ℕ) → Used ns k → Over ns j k → Over ms j k
+    over_to j k u (here e) = here e
+    over_to j k u (step {k = i} v) = step {k = i} (rw (K.same_up (suc i) u) (over_to j (up ns (suc i)) (above_used ns w i u) v))
 
-    over-from : (j k l : ℕ) → l ≡ k → Used ns k → Over ms j l → Over ns j k
-    over-from j k l d u (here e) = here (sym d ∙ e)
-    over-from j k l d u (step {k = i} v) =
+    over_from : (j k l : ℕ) → l ≡ k → Used ns k → Over ms j l → Over ns j k
+    over_from j k l d u (here e) = here (sym d ∙ e)
+    over_from j k l d u (step {k = i} v) =
         let u' : Used ns (suc i) = rw (← d) at u in
-        rw (← d) (step {k = i} (over-from j (up ns (suc i)) (up ms (suc i)) (K.same_up (suc i) u') (above_used ns w i u') v))
+        rw (← d) (step {k = i} (over_from j (up ns (suc i)) (up ms (suc i)) (K.same_up (suc i) u') (above_used ns w i u') v))
 
-    pub over-of : (j k : ℕ) → Used ns k → Over ms j k → Over ns j k
-    over-of j k u v = over-from j k k refl u v
+    pub over_of : (j k : ℕ) → Used ns k → Over ms j k → Over ns j k
+    over_of j k u v = over_from j k k refl u v
 
   -- nothing but totals is moved
   pub moved_bare : (more : Bool) (rows k : ℕ) → Used ns (suc k) → Bare ns (moved_above more rows depth ns (suc k))

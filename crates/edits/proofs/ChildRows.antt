@@ -73,34 +73,34 @@ module _ (m : Model) (S : Sound m) where
     some : 0 < many
     some = (w.placed k u).filled o
 
-    before-length : length before ≡ first
-    before-length = length-take-le first (rows ns) (row_of_lem ns w k u).0
+    before_length : length before ≡ first
+    before_length = length-take-le first (rows ns) (row_of_lem ns w k u).0
 
     parts : rows ns ≡ before ++ (stretch (suc k) 0 many ++ after)
     parts = close_stretch ns w k o none ∙ append_assoc before (stretch (suc k) 0 many) after
 
     -- the rows from the first on are its children
-    child-row : (i : ℕ) → i < many → get_or (rows ns) (first + i) (0, 0) ≡ (suc k, i)
-    child-row i h =
+    child_row : (i : ℕ) → i < many → get_or (rows ns) (first + i) (0, 0) ≡ (suc k, i)
+    child_row i h =
         ap (λ (l : List Row). get_or l (first + i) (0, 0)) parts
-        ∙ ap (λ (n : ℕ). get_or (before ++ (stretch (suc k) 0 many ++ after)) (n + i) (0, 0)) (sym before-length)
+        ∙ ap (λ (n : ℕ). get_or (before ++ (stretch (suc k) 0 many ++ after)) (n + i) (0, 0)) (sym before_length)
         ∙ get_or-append-add before (stretch (suc k) 0 many ++ after) i (0, 0)
         ∙ get_or-append (stretch (suc k) 0 many) after (0, 0) i (rw length_stretch h)
         ∙ get_or_stretch (suc k) 0 many i (0, 0) h
         ∙ ap (λ (n : ℕ). (suc k, n)) (zero-add i)
 
-    parted-before : Parted before (stretch (suc k) 0 many)
-    parted-before = parted_by before (stretch (suc k) 0 many) (0, 0) apart
+    parted_before : Parted before (stretch (suc k) 0 many)
+    parted_before = parted_by before (stretch (suc k) 0 many) (0, 0) apart
       where
         apart : (i : ℕ) → suc i ≡ length before → 0 < length (stretch (suc k) 0 many) → (get_or before i (0, 0)).0 ≢ (get_or (stretch (suc k) 0 many) 0 (0, 0)).0
         apart i e l q =
-            let h : i ≡ row_of ns (suc k) = omega (arith, before-length) in
+            let h : i ≡ row_of ns (suc k) = omega (arith, before_length) in
             let own : get_or before i (0, 0) ≡ (up ns (suc k), ix ns (suc k)) =
             get_or-take first (rows ns) i (0, 0) (omega arith) ∙ ap (λ (r : ℕ). get_or (rows ns) r (0, 0)) h ∙ (row_of_lem ns w k u).1 in
             up≢ ns w k u (sym (ap (λ (x : Row). x.0) own) ∙ q ∙ ap (λ (x : Row). x.0) (get_or_stretch (suc k) 0 many 0 (0, 0) some))
 
-    parted-after : Parted (stretch (suc k) 0 many) after
-    parted-after = parted_by (stretch (suc k) 0 many) after (0, 0) apart
+    parted_after : Parted (stretch (suc k) 0 many) after
+    parted_after = parted_by (stretch (suc k) 0 many) after (0, 0) apart
       where
         apart : (i : ℕ) → suc i ≡ length (stretch (suc k) 0 many) → 0 < length after → (get_or (stretch (suc k) 0 many) i (0, 0)).0 ≢ (get_or after 0 (0, 0)).0
         apart i e l q =
@@ -111,58 +111,58 @@ module _ (m : Model) (S : Sound m) where
             let lt : suc r < length (rows ns) = omega (arith, length-drop (first + many) (rows ns)) in
             let same : get_or after 0 (0, 0) ≡ x = get_or-drop (first + many) (rows ns) 0 (0, 0) ∙ ap (λ (y : ℕ). get_or (rows ns) y (0, 0)) n in
             let parent : x.0 ≡ suc k = sym (ap (λ (y : Row). y.0) same) ∙ sym q ∙ ap (λ (y : Row). y.0) (get_or_stretch (suc k) 0 many i (0, 0) (omega arith)) in
-            let next = row_follows ns w r (suc k) i x.1 lt (child-row i (omega arith)) (ap (λ (y : ℕ). (y, x.1)) parent) in
+            let next = row_follows ns w r (suc k) i x.1 lt (child_row i (omega arith)) (ap (λ (y : ℕ). (y, x.1)) parent) in
             let inside : x.1 < direct_of ns (suc k) = rw parent at (row_shows ns w (suc r) lt).1 in
             omega arith
 
     abbrev spot : ℕ
     spot = length (runs 0 before)
 
-    live-parts : live m ≡ runs 0 (before ++ (stretch (suc k) 0 many ++ after))
-    live-parts = rows_live m (rows ns) (laid_rows m S) (few m S) (neat m S) ∙ ap (runs 0) parts
+    live_parts : live m ≡ runs 0 (before ++ (stretch (suc k) 0 many ++ after))
+    live_parts = rows_live m (rows ns) (laid_rows m S) (few m S) (neat m S) ∙ ap (runs 0) parts
 
     found : region_at (live m) first ≡ At spot
     found =
-        ap (λ (l : List Region). region_at l first) live-parts
-        ∙ ap (region_at (runs 0 (before ++ (stretch (suc k) 0 many ++ after)))) (sym before-length)
-        ∙ run_found before after (suc k) 0 many some parted-before parted-after
+        ap (λ (l : List Region). region_at l first) live_parts
+        ∙ ap (region_at (runs 0 (before ++ (stretch (suc k) 0 many ++ after)))) (sym before_length)
+        ∙ run_found before after (suc k) 0 many some parted_before parted_after
 
     spot_is : at (live m) spot ≡ region first (suc k) 0 many
     spot_is =
-        ap (λ (l : List Region). at l spot) live-parts
-        ∙ run_at before after (suc k) 0 many some parted-before parted-after
-        ∙ ap (λ (s : ℕ). region s (suc k) 0 many) before-length
+        ap (λ (l : List Region). at l spot) live_parts
+        ∙ run_at before after (suc k) 0 many some parted_before parted_after
+        ∙ ap (λ (s : ℕ). region s (suc k) 0 many) before_length
 
-    spot-below : spot < length (live m)
-    spot-below = (at_holds (live m) first spot found).below
+    spot_below : spot < length (live m)
+    spot_below = (at_holds (live m) first spot found).below
 
     -- without it the regions are those of the rows that are left
     spot_out : laid m (joined (collapsed (live m) spot)) ≡ laid m (runs 0 (rows (closed_at ns (suc k))))
     spot_out =
-        collapse_runs m (rows ns) (laid_rows m S) (few m S) (neat m S) spot spot-below
+        collapse_runs m (rows ns) (laid_rows m S) (few m S) (neat m S) spot spot_below
         ∙ ap (λ (g : Region). laid m (runs 0 (remove g.start g.length (rows ns)))) spot_is
         ∙ ap (λ (l : List Row). laid m (runs 0 l)) (sym (close_rows ns w k o none))
 
 -- by the node's number, as the code reads it
 module _ (m : Model) (S : Sound m) where
-  abbrev nextRow : ℕ → ℕ
-  nextRow k = row_of m.nodes k + 1
+  abbrev next_row : ℕ → ℕ
+  next_row k = row_of m.nodes k + 1
 
-  pub next_row_fits : (k : ℕ) → Closable m.nodes k → nextRow k < 2 ^ 64
+  pub next_row_fits : (k : ℕ) → Closable m.nodes k → next_row k < 2 ^ 64
   next_row_fits zero C = absurd (omega (arith, C.above))
   next_row_fits (suc k) C = omega (arith, (row_of_lem m.nodes S.well k (open_used m.nodes (suc k) C.opens)).0, S.limit)
 
-  pub next_row_found : (k : ℕ) → Closable m.nodes k → region_at (live m) (nextRow k) ≡ None → ⊥
+  pub next_row_found : (k : ℕ) → Closable m.nodes k → region_at (live m) (next_row k) ≡ None → ⊥
   next_row_found zero C n = absurd (omega (arith, C.above))
   next_row_found (suc k) C n =
-      let f : region_at (live m) (nextRow (suc k)) ≡ At (spot m S k C.opens C.none) = ap (region_at (live m)) (add-one (row_of m.nodes (suc k))) ∙ found m S k C.opens C.none in
+      let f : region_at (live m) (next_row (suc k)) ≡ At (spot m S k C.opens C.none) = ap (region_at (live m)) (add-one (row_of m.nodes (suc k))) ∙ found m S k C.opens C.none in
       let z : ◌≡◌ {A = ℕ} 0 1 = cc in
       omega arith
 
-  pub children_out : (k : ℕ) → Closable m.nodes k → (i : ℕ) → region_at (live m) (nextRow k) ≡ At i → laid m (joined (collapsed (live m) i)) ≡ laid m (runs 0 (rows (closed_at m.nodes k)))
+  pub children_out : (k : ℕ) → Closable m.nodes k → (i : ℕ) → region_at (live m) (next_row k) ≡ At i → laid m (joined (collapsed (live m) i)) ≡ laid m (runs 0 (rows (closed_at m.nodes k)))
   children_out zero C i e = absurd (omega (arith, C.above))
   children_out (suc k) C i e =
-      let f : region_at (live m) (nextRow (suc k)) ≡ At (spot m S k C.opens C.none) = ap (region_at (live m)) (add-one (row_of m.nodes (suc k))) ∙ found m S k C.opens C.none in
+      let f : region_at (live m) (next_row (suc k)) ≡ At (spot m S k C.opens C.none) = ap (region_at (live m)) (add-one (row_of m.nodes (suc k))) ∙ found m S k C.opens C.none in
       let g : i ≡ spot m S k C.opens C.none = cc in
       rw g (spot_out m S k C.opens C.none)
 

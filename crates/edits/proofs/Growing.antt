@@ -64,28 +64,28 @@ module _ (m : Model) (S : Sound m) where
     unfolding end_of
     end_root e = rw e (sound_given m S).published
 
-    pub end-node : (k ≡ 0 → ⊥) → row_of ns k + 1 + (node_at ns k).total ≡ end_of ns k
+    pub end_node : (k ≡ 0 → ⊥) → row_of ns k + 1 + (node_at ns k).total ≡ end_of ns k
     unfolding end_of
-    end-node n = go k n o
+    end_node n = go k n o
       where
         go : (k : ℕ) → (k ≡ 0 → ⊥) → Opens ns k → row_of ns k + 1 + (node_at ns k).total ≡ end_of ns k
         go zero n o = absurd (n refl)
         go (suc k) n o = omega (arith, (sound_given m S).totals.total (suc k) (open_used ns (suc k) o))
 
-    pub end-limit : end_of ns k ≤ row_limit
-    end-limit = omega (arith, end_fits ns S.well k o, S.limit)
+    pub end_limit : end_of ns k ≤ row_limit
+    end_limit = omega (arith, end_fits ns S.well k o, S.limit)
 
-    pub total-limit : (node_at ns k).total ≤ row_total ns
+    pub total_limit : (node_at ns k).total ≤ row_total ns
     unfolding end_of
-    total-limit = go k o
+    total_limit = go k o
       where
         go : (k : ℕ) → Opens ns k → (node_at ns k).total ≤ row_total ns
         go zero o = unfold rows total_of in omega (arith, (sound_given m S).totals.total 0 (open_used ns 0 o))
         go (suc k) o = omega (arith, (sound_given m S).totals.total (suc k) (open_used ns (suc k) o), end_fits ns S.well (suc k) o)
 
     -- the region that starts there, or none
-    pub end-found : (i : ℕ) → region_at (live m) (end_of ns k) ≡ At i → (i ≤ length (live m)) × (total (take i (live m)) ≡ end_of ns k)
-    end-found i h = ((omega (arith, (at_holds (live m) (end_of ns k) i h).below)), go (dec_lt (end_of ns k) (row_total ns)))
+    pub end_found : (i : ℕ) → region_at (live m) (end_of ns k) ≡ At i → (i ≤ length (live m)) × (total (take i (live m)) ≡ end_of ns k)
+    end_found i h = ((omega (arith, (at_holds (live m) (end_of ns k) i h).below)), go (dec_lt (end_of ns k) (row_total ns)))
       where
         inside : (k : ℕ) → Opens ns k → region_at (live m) (end_of ns k) ≡ At i → end_of ns k < row_total ns → total (take i (live m)) ≡ end_of ns k
         inside zero o h l = absurd (unfold end_of in omega arith)
@@ -120,7 +120,7 @@ module _ (m : Model) (k count : ℕ) (G : Growable m k count) where
     well = G.sound.well;
     opens = G.opens;
     more = G.more;
-    fits = λ j o. omega (arith, total-limit m G.sound j o, G.limit);
+    fits = λ j o. omega (arith, total_limit m G.sound j o, G.limit);
   }
 
   count_more : count ≡ direct_of m.nodes k + more
@@ -159,10 +159,10 @@ module _ (m : Model) (k count : ℕ) (G : Growable m k count) where
 
   -- the same, by what the calls answered
   module _ (placed q : Model) (p : placed ≡ laid m (runs 0 (rows after))) where
-    pub placed-raisable : Raisable placed.nodes k count
-    placed-raisable = rw p raisable
+    pub placed_raisable : Raisable placed.nodes k count
+    placed_raisable = rw p raisable
 
-    pub grown-model : q ≡ with_nodes placed (raised placed.nodes k count) → record { nodes = q.nodes; regions = q.regions; region_count = q.region_count; published = m.published + more } ≡ settle after
-    grown-model e =
+    pub grown_model : q ≡ with_nodes placed (raised placed.nodes k count) → record { nodes = q.nodes; regions = q.regions; region_count = q.region_count; published = m.published + more } ≡ settle after
+    grown_model e =
         ap (λ (r : Model). record { nodes = r.nodes; regions = r.regions; region_count = r.region_count; published = m.published + more }) (e ∙ ap (λ (r : Model). with_nodes r (raised r.nodes k count)) p)
         ∙ grown_settles

@@ -27,14 +27,14 @@ use Rattle.tree.proofs.WellFormed.{open_used, zero_open}
 use Rattle.steps.specs.Changes.{Put}
 use Rattle.steps.specs.Settled.{Given, Raised, with_nodes}
 use Rattle.steps.proofs.Put.{put_same, put_other, put_used, put_keeps, put_well}
-use Rattle.steps.proofs.Opening.{open-rows, open-row-total}
+use Rattle.steps.proofs.Opening.{open_rows, open_row_total}
 use Rattle.steps.proofs.Totals.{over_open, open_totalled}
 use Rattle.steps.proofs.Settling.{given_settle, sound_given}
 use Rattle.totals.specs.Totals.{moved_above, Above, AllMovable}
 use Rattle.totals.proofs.Moves.{moved_above_lem, kept_else}
 use Rattle.edits.specs.Openable.{Openable}
-use Rattle.edits.proofs.Chains.{total_rows, over-to, over-of, moved_bare}
-use Rattle.steps.proofs.SoundRegions.{few, neat, no_row, regions_room, found_inside, with-regions, regions-laid, regions-tiled, regions-total, region-children}
+use Rattle.edits.proofs.Chains.{total_rows, over_to, over_of, moved_bare}
+use Rattle.steps.proofs.SoundRegions.{few, neat, no_row, regions_room, found_inside, with_regions_lem, regions_laid, regions_tiled, regions_total, region_children}
 
 -- the model with another published count
 abbrev pub publishing : ℕ → Model → Model
@@ -73,10 +73,10 @@ module _ (m : Model) (place r k : ℕ) (n : Node) (O : Openable m place r (suc k
 
   -- the node's chain, in the old list and in the new one
   chain_of : (j : ℕ) → Above opened j (suc k) → Over ns j n.parent
-  chain_of j a = over-of ns w opened (put_keeps ns w (suc k) new P) j n.parent (open_used ns n.parent above) (rw up_is at a)
+  chain_of j a = over_of ns w opened (put_keeps ns w (suc k) new P) j n.parent (open_used ns n.parent above) (rw up_is at a)
 
   chain_to : (j : ℕ) → Over ns j n.parent → Above opened j (suc k)
-  chain_to j v = rw up_is (over-to ns w opened (put_keeps ns w (suc k) new P) j n.parent (open_used ns n.parent above) v)
+  chain_to j v = rw up_is (over_to ns w opened (put_keeps ns w (suc k) new P) j n.parent (open_used ns n.parent above) v)
 
   movable : AllMovable true n.direct opened (suc k)
   movable j a =
@@ -98,7 +98,7 @@ module _ (m : Model) (place r k : ℕ) (n : Node) (O : Openable m place r (suc k
   laid_after : laid m grown ≡ laid m (runs 0 (rows opened))
   laid_after =
       expand_runs m (rows ns) (settle_laid m ns O.whole.is) (few m O.whole) (neat m O.whole) r place (suc k) n.direct O.found O.filled (no_row m O.whole (suc k) O.was)
-      ∙ ap (λ (xs : List Row). laid m (runs 0 xs)) (sym (simp append_assoc at (open-rows ns w k new P O.was refl r inside O.row)))
+      ∙ ap (λ (xs : List Row). laid m (runs 0 xs)) (sym (simp append_assoc at (open_rows ns w k new P O.was refl r inside O.row)))
 
   given : Given opened (publishing (m.published + n.direct) (laid (with_nodes m news) grown))
   given = record {
@@ -106,7 +106,7 @@ module _ (m : Model) (place r k : ℕ) (n : Node) (O : Openable m place r (suc k
     totals = open_totalled ns w k new P O.was refl r inside O.row news (sound_given m O.whole).totals O.flat raised;
     regions = ap (λ (q : Model). q.regions) laid_after;
     region_count = ap (λ (q : Model). q.region_count) laid_after;
-    published = ap (λ (c : ℕ). c + n.direct) (sound_given m O.whole).published ∙ sym (open-row-total ns w k new P O.was refl r inside O.row);
+    published = ap (λ (c : ℕ). c + n.direct) (sound_given m O.whole).published ∙ sym (open_row_total ns w k new P O.was refl r inside O.row);
   }
 
 -- what the calls ask, and what they leave
@@ -136,15 +136,15 @@ module _ (m : Model) (place r : ℕ) (n : Node) where
   expand_asks (suc k) q ns O e f =
       let S = O.whole in
       let h : Holds (live q) r place = at_holds (live q) r place (ap (λ (x : Model). region_at (live x) r) e ∙ O.found) in (
-        regions-laid m S q ns e,
+        regions_laid m S q ns e,
         (
-          regions-tiled m S q ns e,
+          regions_tiled m S q ns e,
           (
             h,
             (
-              omega (arith, ap length (with-regions m S q ns e), regions_room m S k O.put.small O.was),
-              omega (arith, regions-total m S q ns e, O.room),
-              omega (arith, region-children m S q ns e place h.below, f (at (live q) place).node),
+              omega (arith, ap length (with_regions_lem m S q ns e), regions_room m S k O.put.small O.was),
+              omega (arith, regions_total m S q ns e, O.room),
+              omega (arith, region_children m S q ns e place h.below, f (at (live q) place).node),
             ),
           ),
         ),

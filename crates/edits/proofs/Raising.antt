@@ -147,19 +147,19 @@ module _ (ns : List Node) (k count : ℕ) (R : Raisable ns k count) where
   pub raised_raised : Raised ns k more (set ns k grown) (raised ns k count)
   raised_raised = record { over = λ j v. over j (ℕ_discrete j k) v; else = else }
     where
-      total-own : (node_at (raised ns k count) k).total ≡ (node_at (set ns k grown) k).total + more
-      total-own =
+      total_own : (node_at (raised ns k count) k).total ≡ (node_at (set ns k grown) k).total + more
+      total_own =
           ap (λ (n : Node). n.total) (kept k (not_above stored stored_well k stored_open) ∙ stored_same)
           ∙ sym (ap (λ (n : Node). n.total + more) (put_same ns w k grown grown_own))
 
-      up-stored : (j : ℕ) → j ≢ k → (i : ℕ) → i ≡ k → Over ns j i → Above stored j i
-      up-stored j d i e (here f) = absurd (d (sym f ∙ e))
-      up-stored j d (suc i) e (step v) = subst (λ (x : ℕ). Over stored j x) (sym (same_up (suc i))) (over_same ns stored (λ x. sym (same_up x)) j (up ns (suc i)) v)
+      up_stored : (j : ℕ) → j ≢ k → (i : ℕ) → i ≡ k → Over ns j i → Above stored j i
+      up_stored j d i e (here f) = absurd (d (sym f ∙ e))
+      up_stored j d (suc i) e (step v) = subst (λ (x : ℕ). Over stored j x) (sym (same_up (suc i))) (over_same ns stored (λ x. sym (same_up x)) j (up ns (suc i)) v)
 
       over : (j : ℕ) → Dec (j ≡ k) → Over ns j k → (node_at (raised ns k count) j).total ≡ (node_at (set ns k grown) j).total + more
-      over j (yes e) v = rw e total-own
+      over j (yes e) v = rw e total_own
       over j (no d) v =
-          ap (λ (n : Node). n.total) (moved j (up-stored j d k refl v))
+          ap (λ (n : Node). n.total) (moved j (up_stored j d k refl v))
           ∙ sym (ap (λ (n : Node). n.total + more) (put_other ns w k grown grown_own j d))
 
       else : (j : ℕ) → (Over ns j k → ⊥) → (node_at (raised ns k count) j).total ≡ (node_at (set ns k grown) j).total

@@ -79,25 +79,25 @@ module _ (m : Model) (k count : ℕ) (G : Visitable m k count) where
     P : Put ns k (with_direct count n)
     P = grown_put ns w k count n.ongoing o G.more
 
-    pub visit-growable : (count ≡ n.direct → ⊥) → Growable m k count
-    visit-growable d = record { sound = G.sound; opens = o; more = omega (arith, G.more); limit = G.limit o }
+    pub visit_growable : (count ≡ n.direct → ⊥) → Growable m k count
+    visit_growable d = record { sound = G.sound; opens = o; more = omega (arith, G.more); limit = G.limit o }
 
-    after-sound : Sound (settle after)
-    after-sound =
+    after_sound : Sound (settle after)
+    after_sound =
         settle_sound after (put_well ns w k (with_direct count n) P)
         (omega (arith, grow_row_total ns w k (with_direct count n) P o (count - n.direct) (omega (arith, G.more)), G.limit o))
 
     after_open : Opens (settle after).nodes k
     after_open = ap is_open (settle_at after k ∙ ap (with_total (cond (used (node_at after k)) (total_of after k) 0)) (put_same ns w k (with_direct count n) P)) ∙ o
 
-    pub grown-ready : (q : Model) → q ≡ settle after → Sound q × Opens q.nodes k
-    grown-ready q e = rw e (after-sound, after_open)
+    pub grown_ready : (q : Model) → q ≡ settle after → Sound q × Opens q.nodes k
+    grown_ready q e = rw e (after_sound, after_open)
 
     pub still_open : (b : Bool) → b ≡ true → settle after ≡ settle (set ns k (visited count b n))
     still_open b e = ap (λ (x : Node). settle (set ns k x)) (sym (visited_still count n G.live) ∙ ap (λ (c : Bool). visited count c n) (sym e))
 
-    pub complete-open : (b : Bool) → b ≡ false → (q : Model) → q ≡ settle after → settle (set q.nodes k (with_ongoing false (node_at q.nodes k))) ≡ settle (set ns k (visited count b n))
-    complete-open b e q d =
+    pub complete_open : (b : Bool) → b ≡ false → (q : Model) → q ≡ settle after → settle (set q.nodes k (with_ongoing false (node_at q.nodes k))) ≡ settle (set ns k (visited count b n))
+    complete_open b e q d =
         ap (λ (r : Model). settle (set r.nodes k (with_ongoing false (node_at r.nodes k)))) d
         ∙ settle_bare (set (settle after).nodes k (with_ongoing false (node_at (settle after).nodes k))) (set after k (with_ongoing false (node_at after k)))
         (bare_change (with_ongoing false) (λ x. refl) (settle after).nodes after (bare_sym (settle_given after).nodes) k)
@@ -109,8 +109,8 @@ module _ (m : Model) (k count : ℕ) (G : Visitable m k count) where
     abbrev stored : Node
     stored = with_total count (with_direct count n)
 
-    still-put : Put ns k stored
-    still-put = put_own ns w k stored G.live (record {
+    still_put : Put ns k stored
+    still_put = put_own ns w k stored G.live (record {
       live = G.live;
       parent = refl;
       index = refl;
@@ -120,10 +120,10 @@ module _ (m : Model) (k count : ℕ) (G : Visitable m k count) where
       filled = λ z o. absurd (differ o c);
     })
 
-    pub still-closed : (b : Bool) → b ≡ true → (x : Node) → x ≡ stored → with_nodes m (set ns k x) ≡ settle (set ns k (visited count b n))
-    still-closed b e x d =
+    pub still_closed : (b : Bool) → b ≡ true → (x : Node) → x ≡ stored → with_nodes m (set ns k x) ≡ settle (set ns k (visited count b n))
+    still_closed b e x d =
         ap (λ (y : Node). with_nodes m (set ns k y)) d
-        ∙ sym (quiet_in_place m G.sound (set ns k stored) (quiet_put ns w k stored still-put refl (λ o. absurd (differ o c))) (put_totals m G.sound k stored (used_small ns w k G.live) c refl))
+        ∙ sym (quiet_in_place m G.sound (set ns k stored) (quiet_put ns w k stored still_put refl (λ o. absurd (differ o c))) (put_totals m G.sound k stored (used_small ns w k G.live) c refl))
         ∙ settle_bare (set ns k stored) (set ns k (with_direct count n)) (bare_put ns k stored (with_direct count n) refl)
         ∙ ap (λ (y : Node). settle (set ns k y)) (sym (visited_still count n G.live) ∙ ap (λ (a : Bool). visited count a n) (sym e))
 

@@ -104,22 +104,22 @@ written_holds o steps n h w =
 
 module _ (ns : List Node) (w : WellFormed ns) (ps is cs : List ℕ) where
   module _ (g : Columns false ns 256 ps is cs) (k : ℕ) (above : 0 < k) (opens : Opens ns k) where
-    same-order : closing_order (column_nodes ps is cs) longest_chain k ≡ closing_order ns depth k
-    same-order = same_closing ns ps is cs w.size g longest_chain k (used_small ns w k (open_used ns k opens)) ∙ sym (closing_enough ns w k above opens)
+    same_order : closing_order (column_nodes ps is cs) longest_chain k ≡ closing_order ns depth k
+    same_order = same_closing ns ps is cs w.size g longest_chain k (used_small ns w k (open_used ns k opens)) ∙ sym (closing_enough ns w k above opens)
 
-    pub closing-fits : 0 + length (closing_order (column_nodes ps is cs) longest_chain k) ≤ 512
-    closing-fits = omega (arith, ap length same-order, closing_short ns w depth k above opens)
+    pub closing_fits : 0 + length (closing_order (column_nodes ps is cs) longest_chain k) ≤ 512
+    closing_fits = omega (arith, ap length same_order, closing_short ns w depth k above opens)
 
-    pub closing-holds : (steps : List ℕ) (n : ℕ) → Written (closing_order (column_nodes ps is cs) longest_chain k) (replicate 512 0) steps 0 n → Holds (record { steps = steps; len = n }) (closing_order ns depth k)
-    closing-holds steps n v = let s = closing_short ns w depth k above opens in written_holds (closing_order ns depth k) steps n (omega arith) (rw same-order at v)
+    pub closing_holds : (steps : List ℕ) (n : ℕ) → Written (closing_order (column_nodes ps is cs) longest_chain k) (replicate 512 0) steps 0 n → Holds (record { steps = steps; len = n }) (closing_order ns depth k)
+    closing_holds steps n v = let s = closing_short ns w depth k above opens in written_holds (closing_order ns depth k) steps n (omega arith) (rw same_order at v)
 
   module _ (g : Columns true ns 256 ps is cs) where
     same_codes : visit_codes (column_nodes ps is cs) depth 0 ≡ codes (visits ns)
     unfolding visit_codes
     same_codes = ap codes (same_visit ns ps is cs w.size g depth 0 (omega arith))
 
-    pub visits-fits : 0 + length (visit_codes (column_nodes ps is cs) depth 0) ≤ 512
-    visits-fits = omega (arith, ap length same_codes, visits_short ns w)
+    pub visits_fits : 0 + length (visit_codes (column_nodes ps is cs) depth 0) ≤ 512
+    visits_fits = omega (arith, ap length same_codes, visits_short ns w)
 
-    pub visits-holds : (steps : List ℕ) (n : ℕ) → Written (visit_codes (column_nodes ps is cs) depth 0) (replicate 512 0) steps 0 n → Holds (record { steps = steps; len = n }) (codes (visits ns))
-    visits-holds steps n v = written_holds (codes (visits ns)) steps n (visits_short ns w) (rw same_codes at v)
+    pub visits_holds : (steps : List ℕ) (n : ℕ) → Written (visit_codes (column_nodes ps is cs) depth 0) (replicate 512 0) steps 0 n → Holds (record { steps = steps; len = n }) (codes (visits ns))
+    visits_holds steps n v = written_holds (codes (visits ns)) steps n (visits_short ns w) (rw same_codes at v)

@@ -138,10 +138,10 @@ module _ (ns : List Node) (ps is cs : List ℕ) (size : length ns ≡ 256) where
   same_closing g (suc f) k h =
       ap (λ (l : List ℕ). l ++ (k ∷ []))
       (ap (flat_map (λ j. closing_order (column_nodes ps is cs) f j)) (same_children false is_open all_open (λ n. refl) ns ps is cs size g k h)
-      ∙ gather_same is_open ns k (λ j. closing_order (column_nodes ps is cs) f j) (λ j. closing_order ns f j) (λ j o e. same_closing g f (suc j) (open-small j o)) (direct_of ns k) 0)
+      ∙ gather_same is_open ns k (λ j. closing_order (column_nodes ps is cs) f j) (λ j. closing_order ns f j) (λ j o e. same_closing g f (suc j) (open_small j o)) (direct_of ns k) 0)
     where
-      open-small : (j : ℕ) → is_open (node_at ns (suc j)) ≡ true → suc j < 256
-      open-small j o = rw size at (used_inside ns (suc j) (rw o))
+      open_small : (j : ℕ) → is_open (node_at ns (suc j)) ≡ true → suc j < 256
+      open_small j o = rw size at (used_inside ns (suc j) (rw o))
 
   followed_is : (k : ℕ) → followed ns k ≡ children_from is_ongoing ns k 0 (count_for true (node_at ns k))
   unfolding children children_from
@@ -157,8 +157,8 @@ module _ (ns : List Node) (ps is cs : List ℕ) (size : length ns ≡ 256) where
   same_visit g (suc f) k h =
       ap (λ (l : List Step). text k ∷ (l ++ (grow k ∷ [])))
       (ap (flat_map (λ j. visit (column_nodes ps is cs) f j)) (followed_all ps is cs k h ∙ same_children true is_ongoing all_ongoing (λ n. refl) ns ps is cs size g k h)
-      ∙ gather_same is_ongoing ns k (λ j. visit (column_nodes ps is cs) f j) (λ j. visit ns f j) (λ j o e. same_visit g f (suc j) (ongoing-small j o)) (count_for true (node_at ns k)) 0
+      ∙ gather_same is_ongoing ns k (λ j. visit (column_nodes ps is cs) f j) (λ j. visit ns f j) (λ j o e. same_visit g f (suc j) (ongoing_small j o)) (count_for true (node_at ns k)) 0
       ∙ ap (flat_map (λ j. visit ns f j)) (sym (followed_is k)))
     where
-      ongoing-small : (j : ℕ) → is_ongoing (node_at ns (suc j)) ≡ true → suc j < 256
-      ongoing-small j o = rw size at (used_inside ns (suc j) (rw o (or-true (is_open (node_at ns (suc j))))))
+      ongoing_small : (j : ℕ) → is_ongoing (node_at ns (suc j)) ≡ true → suc j < 256
+      ongoing_small j o = rw size at (used_inside ns (suc j) (rw o (or-true (is_open (node_at ns (suc j))))))

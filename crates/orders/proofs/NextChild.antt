@@ -51,8 +51,8 @@ module _ (ps is : List ℕ) (p low limit : ℕ) where
         go (no n) = omega (arith, g.bound_some n, (g.found.some n).under)
 
     -- node k is a better one, or not
-    pub search-better : k < 256 → get_or ps k 0 ≡ p → low ≤ get_or is k 0 → get_or is k 0 < bound → Search ps is p low limit k (get_or is k 0) (k + 1)
-    search-better b e l u = record {
+    pub search_better : k < 256 → get_or ps k 0 ≡ p → low ≤ get_or is k 0 → get_or is k 0 < bound → Search ps is p low limit k (get_or is k 0) (k + 1)
+    search_better b e l u = record {
       found = record {
         small = b;
         none = λ z. absurd (omega (arith, g.past_zero));
@@ -71,8 +71,8 @@ module _ (ps is : List ℕ) (p low limit : ℕ) where
             go (yes q) = omega (arith, ap (λ (x : ℕ). get_or is x 0) q)
             go (no q) = omega (arith, bounded j c (omega arith) f h)
 
-    pub search-passes : k < 256 → (get_or ps k 0 ≡ p → low ≤ get_or is k 0 → bound ≤ get_or is k 0) → Search ps is p low limit best bound (k + 1)
-    search-passes b w = record {
+    pub search_passes : k < 256 → (get_or ps k 0 ≡ p → low ≤ get_or is k 0 → bound ≤ get_or is k 0) → Search ps is p low limit best bound (k + 1)
+    search_passes b w = record {
       found = record {
         small = g.found.small;
         none = λ z j c d f h. omega (arith, g.bound_none z, still j c d f h);
@@ -91,8 +91,8 @@ module _ (ps is : List ℕ) (p low limit : ℕ) where
             go (yes q) = let e : get_or is j 0 ≡ get_or is k 0 = ap (λ (x : ℕ). get_or is x 0) q in omega (arith, w (sym (ap (λ (x : ℕ). get_or ps x 0) q) ∙ f) (omega arith))
             go (no q) = bounded j c (omega arith) f h
 
-    pub search-ends : 256 ≤ k → NextChild ps is p low limit 256 best
-    search-ends h = let e : k ≡ 256 = omega (arith, g.within_all) in rw e at g.found
+    pub search_ends : 256 ≤ k → NextChild ps is p low limit 256 best
+    search_ends h = let e : k ≡ 256 = omega (arith, g.within_all) in rw e at g.found
 
   pub search_empty : limit ≤ low → NextChild ps is p low limit 256 0
   search_empty h = record { small = omega arith; none = λ z j a b e l. omega arith; some = λ n. absurd (n refl) }

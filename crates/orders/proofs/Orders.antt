@@ -68,10 +68,10 @@ module _ (ns : List Node) (w : WellFormed ns) where
     part_none R = record { each = λ i l. absurd (omega arith); once = λ i j a b. absurd (omega arith) }
 
     module _ (q : Node → Bool) (uses : (j : ℕ) → q (node_at ns (suc j)) ≡ true → Used ns (suc j)) (passes : (j : ℕ) → q (node_at ns (suc j)) ≡ true → Q (suc j)) (g : ℕ → List ℕ) (parts : (j : ℕ) → Q j → Part (Under (to ns j)) (g j)) (p : ℕ) where
-      part-children : (n i : ℕ) → Part (From ns p i) (flat_map g (children_from q ns p i n))
+      part_children : (n i : ℕ) → Part (From ns p i) (flat_map g (children_from q ns p i n))
       unfolding children_from keep flat_map
-      part-children zero i = part_none (From ns p i)
-      part-children (suc n) i = go (child_by q ns p i) refl (part-children n (suc i))
+      part_children zero i = part_none (From ns p i)
+      part_children (suc n) i = go (child_by q ns p i) refl (part_children n (suc i))
         where
           Rest : List ℕ
           Rest = flat_map g (children_from q ns p (suc i) n)
@@ -107,7 +107,7 @@ module _ (ns : List Node) (w : WellFormed ns) where
   closing_part : (f k : ℕ) → Closing k → Part (λ x. x) Closing (Under (to ns k)) (closing_order ns f k)
   unfolding closing_order children
   closing_part zero k c = part_none (λ x. x) Closing (Under (to ns k))
-  closing_part (suc f) k c = go (part-children (λ x. x) Closing is_open open_uses (λ j o. (o, (omega arith))) (λ j. closing_order ns f j) (λ j d. closing_part f j d) k (direct_of ns k) 0)
+  closing_part (suc f) k c = go (part_children (λ x. x) Closing is_open open_uses (λ j o. (o, (omega arith))) (λ j. closing_order ns f j) (λ j d. closing_part f j d) k (direct_of ns k) 0)
     where
       Inner : List ℕ
       Inner = flat_map (λ j. closing_order ns f j) (children_from is_open ns k 0 (direct_of ns k))
@@ -147,7 +147,7 @@ module _ (ns : List Node) (w : WellFormed ns) where
   followed_part g parts k = go (is_open (node_at ns k))
     where
       go : (b : Bool) → Part half (Used ns) (From ns k 0) (flat_map g (cond b (children is_ongoing ns k) []))
-      go true = part-children half (Used ns) is_ongoing ongoing_uses ongoing_uses g parts k (direct_of ns k) 0
+      go true = part_children half (Used ns) is_ongoing ongoing_uses ongoing_uses g parts k (direct_of ns k) 0
       go false = part_none half (Used ns) (From ns k 0)
 
   visit_part : (f k : ℕ) → Used ns k → Part half (Used ns) (Under (to ns k)) (visit_codes ns f k)
@@ -166,23 +166,23 @@ module _ (ns : List Node) (w : WellFormed ns) where
       other : (x y : ℕ) → Ext (to ns k) (to ns (half x)) → half y ≡ k → x ≢ y
       other x y b d e = ext_irrefl (to ns k) (rw (ap half e ∙ d) at b)
 
-      text-half : half (2 * k) ≡ k
-      text-half = omega arith
+      text_half : half (2 * k) ≡ k
+      text_half = omega arith
 
-      grow-half : half (2 * k + 1) ≡ k
-      grow-half = omega arith
+      grow_half : half (2 * k + 1) ≡ k
+      grow_half = omega arith
 
       go : Part half (Used ns) (From ns k 0) Inner → Part half (Used ns) (Under (to ns k)) ((2 * k) ∷ (Inner ++ ((2 * k + 1) ∷ [])))
       go B = record {
         each =
-            each_append Here ((2 * k) ∷ []) (Inner ++ ((2 * k + 1) ∷ [])) (each_one Here (2 * k) (here (2 * k) text-half))
-            (each_append Here Inner ((2 * k + 1) ∷ []) (λ i l. let r = B.each i l in (r.0, inr (inside i l))) (each_one Here (2 * k + 1) (here (2 * k + 1) grow-half)));
+            each_append Here ((2 * k) ∷ []) (Inner ++ ((2 * k + 1) ∷ [])) (each_one Here (2 * k) (here (2 * k) text_half))
+            (each_append Here Inner ((2 * k + 1) ∷ []) (λ i l. let r = B.each i l in (r.0, inr (inside i l))) (each_one Here (2 * k + 1) (here (2 * k + 1) grow_half)));
         once =
             distinct_append (λ x. x ≡ 2 * k) Later ((2 * k) ∷ []) (Inner ++ ((2 * k + 1) ∷ [])) (each_one (λ x. x ≡ 2 * k) (2 * k) refl)
             (each_append Later Inner ((2 * k + 1) ∷ []) (λ i l. inl (inside i l)) (each_one Later (2 * k + 1) (inr refl)))
             first (distinct_one (2 * k))
             (distinct_append (λ x. Ext (to ns k) (to ns (half x))) (λ x. x ≡ 2 * k + 1) Inner ((2 * k + 1) ∷ []) inside (each_one (λ x. x ≡ 2 * k + 1) (2 * k + 1) refl)
-            (λ x y b d. other x y b (ap half d ∙ grow-half)) B.once (distinct_one (2 * k + 1)));
+            (λ x y b d. other x y b (ap half d ∙ grow_half)) B.once (distinct_one (2 * k + 1)));
       }
         where
           inside : Each (λ x. Ext (to ns k) (to ns (half x))) Inner
@@ -192,7 +192,7 @@ module _ (ns : List Node) (w : WellFormed ns) where
           Later x = Ext (to ns k) (to ns (half x)) ⊎ (x ≡ 2 * k + 1)
 
           first : (x y : ℕ) → x ≡ 2 * k → Later y → x ≢ y
-          first x y e (inl b) d = other y x b (ap half e ∙ text-half) (sym d)
+          first x y e (inl b) d = other y x b (ap half e ∙ text_half) (sym d)
           first x y e (inr b) d = omega arith
 
   pub visits_each : Each (λ x. Used ns (x / 2)) (codes (visits ns))

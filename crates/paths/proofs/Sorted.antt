@@ -157,11 +157,11 @@ module _ {l : List Path} (s : Sorted l) (r : ℕ) (q : Path) (at : At l r q) whe
   pub row_at : row l q ≡ r
   row_at =
       number_cut (lower q)
-      ∙ rw (number_all (lower q) (take r l) at_before, number_none (lower q) (q ∷ drop (suc r) l) (λ x m. not-before x (late x m)), length-take-le r l (le_of_lt at.0), add-zero)
+      ∙ rw (number_all (lower q) (take r l) at_before, number_none (lower q) (q ∷ drop (suc r) l) (λ x m. not_before x (late x m)), length-take-le r l (le_of_lt at.0), add-zero)
     where
-      not-before : (x : Path) → (x ≡ q) ⊎ Lt q x → Lt x q → ⊥
-      not-before x (inl e) h = lt_irrefl q (rw e at h)
-      not-before x (inr k) h = lt_irrefl q (lt_trans k h)
+      not_before : (x : Path) → (x ≡ q) ⊎ Lt q x → Lt x q → ⊥
+      not_before x (inl e) h = lt_irrefl q (rw e at h)
+      not_before x (inr k) h = lt_irrefl q (lt_trans k h)
 
 pub at_unique : {l : List Path} → Sorted l → (r k : ℕ) (q : Path) → At l r q → At l k q → r ≡ k
 at_unique s r k q a b = sym (row_at s r q a) ∙ row_at s k q b

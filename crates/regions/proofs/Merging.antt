@@ -14,7 +14,7 @@ use Rattle.model.specs.Regions.{no_region}
 use Rattle.runs.specs.Regions.{at, total}
 use Rattle.runs.specs.Changes.{merge, attach, joined}
 use Rattle.runs.specs.Laid.{with_counted, laid}
-use Rattle.runs.proofs.Edits.{pad-is, add-pad}
+use Rattle.runs.proofs.Edits.{pad_is, add_pad}
 use Rattle.runs.proofs.Runs.{attach_apart, attach_merge, apart_attach}
 
 pub merge_none : (n : ℕ) (l : List Region) → n ≡ 0 → take n l ≡ joined (take n l)
@@ -37,7 +37,7 @@ merging_start [] g h e = absurd (omega arith)
 merging_start (x ∷ xs) g h e =
     record {
       done = [];
-      written = sym (pad-is region_places no_region [] region_places refl);
+      written = sym (pad_is region_places no_region [] region_places refl);
       count = refl;
       fewer = omega arith;
       within = omega arith;
@@ -50,7 +50,7 @@ module _ (gs merged : List Region) (n i : ℕ) (last : Region) (few : length gs 
   put =
       ap (λ (l : List Region). set l n last) w.written
       ∙ ap (λ (k : ℕ). set (pad region_places no_region w.done) k last) (sym w.count)
-      ∙ add-pad region_places no_region w.done (omega (arith, w.count, w.fewer, w.within)) last (omega (arith, w.count, w.fewer, w.within))
+      ∙ add_pad region_places no_region w.done (omega (arith, w.count, w.fewer, w.within)) last (omega (arith, w.count, w.fewer, w.within))
 
   more : length (w.done ++ last ∷ []) ≡ n + 1
   more = rw length-append (omega (arith, w.count))
@@ -62,15 +62,15 @@ module _ (gs merged : List Region) (n i : ℕ) (last : Region) (few : length gs 
     left : g.length + total (drop (i + 1) gs) ≡ total (drop i gs)
     left = ap total (sym ahead)
 
-    pub merging-fits : total gs < 2 ^ 64 → last.length + g.length < 2 ^ 64
-    merging-fits h = omega (arith, w.rows, left)
+    pub merging_fits : total gs < 2 ^ 64 → last.length + g.length < 2 ^ 64
+    merging_fits h = omega (arith, w.rows, left)
 
     now : joined gs ≡ w.done ++ attach last (attach g (joined (drop (i + 1) gs)))
     unfolding joined
     now = w.same ∙ ap (λ (l : List Region). w.done ++ attach last (joined l)) ahead
 
-    pub merging-same : last.node ≡ g.node → Merging gs merged n (i + 1) (merge last g)
-    merging-same h =
+    pub merging_same : last.node ≡ g.node → Merging gs merged n (i + 1) (merge last g)
+    merging_same h =
         record {
           done = w.done;
           written = w.written;
@@ -81,8 +81,8 @@ module _ (gs merged : List Region) (n i : ℕ) (last : Region) (few : length gs 
           same = now ∙ ap (λ (l : List Region). w.done ++ l) (attach_merge last g (joined (drop (i + 1) gs)) (sym h));
         }
 
-    pub merging-apart : last.node ≢ g.node → Merging gs (set merged n last) (n + 1) (i + 1) g
-    merging-apart h =
+    pub merging_apart : last.node ≢ g.node → Merging gs (set merged n last) (n + 1) (i + 1) g
+    merging_apart h =
         record {
           done = w.done ++ last ∷ [];
           written = put;

@@ -15,7 +15,7 @@ use Rattle.runs.specs.Regions.{at, total, Tiled}
 use Rattle.runs.specs.Search.{child_at, Holds}
 use Rattle.runs.specs.Changes.{joined, moved, resized, split, expanded, collapsed, grown}
 use Rattle.runs.specs.Laid.{live, laid, Laid}
-use Rattle.runs.proofs.Edits.{length-mapFrom, length-removeAt, length-insertAt, map_next, insert_between, insert-next, insert_third, drop-next, remove_seam}
+use Rattle.runs.proofs.Edits.{length_map_from, length_remove_at, length_insert_at, map_next, insert_between, insert_next, insert_third, drop_next, remove_seam}
 use Rattle.runs.proofs.Search.{end_le, start_after}
 use Rattle.runs.proofs.Changes.{collapse_total, grow_total}
 use Rattle.runs.proofs.Laid.{live_of, laid_of, then, live_count, live_at}
@@ -35,15 +35,15 @@ module _ (gs : List Region) (i : ℕ) (h : i < length gs) where
   around_one x = ap (λ (l : List Region). set l i x) (split_at gs i no_region h) ∙ set_at (take i gs) (at gs i) (drop (suc i) gs) x i front
 
   around_two : (x y : Region) → insert_at (i + 1) y (around gs i (x ∷ [])) ≡ around gs i (x ∷ y ∷ [])
-  around_two x y = insert-next (take i gs) i front x y (drop (suc i) gs)
+  around_two x y = insert_next (take i gs) i front x y (drop (suc i) gs)
 
   around_three : (x y z : Region) → insert_at (i + 2) z (around gs i (x ∷ y ∷ [])) ≡ around gs i (x ∷ y ∷ z ∷ [])
   around_three x y z = insert_third (take i gs) i front x y z (drop (suc i) gs)
 
   module _ (last : ℕ) (g : Region) where
-    split-whole : last + 1 ≡ (at gs i).offset + (at gs i).length → around gs i (resized (last + 1 - (at gs i).offset) (at gs i) ∷ g ∷ []) ≡ split gs i last g
+    split_whole : last + 1 ≡ (at gs i).offset + (at gs i).length → around gs i (resized (last + 1 - (at gs i).offset) (at gs i) ∷ g ∷ []) ≡ split gs i last g
     unfolding split
-    split-whole e = let z : (at gs i).offset + (at gs i).length - (last + 1) ≡ 0 = omega arith in rw z
+    split_whole e = let z : (at gs i).offset + (at gs i).length - (last + 1) ≡ 0 = omega arith in rw z
 
     split_parts : last + 1 < (at gs i).offset + (at gs i).length
         → around gs i (resized (last + 1 - (at gs i).offset) (at gs i) ∷ g ∷ region (g.start + g.length) (at gs i).node (last + 1) ((at gs i).offset + (at gs i).length - (last + 1)) ∷ []) ≡ split gs i last g
@@ -82,8 +82,8 @@ module _ (m : Model) (long : length m.regions ≡ region_places) (l : Laid m) (i
     cut : a ≡ laid m (around (live m) i (first ∷ []))
     cut = ea ∙ ap (laid m) (around_one (live m) i h first)
 
-    pub put-new-asks : Laid a × ((i + 1 ≤ length (live a)) × (length (live a) < region_places))
-    put-new-asks =
+    pub put_new_asks : Laid a × ((i + 1 ≤ length (live a)) × (length (live a) < region_places))
+    put_new_asks =
         let n = ap length (live_of m a _ fits_one cut) in
         (laid_of m a _ fits_one cut, (omega (arith, length_around (live m) i h (first ∷ [])), omega (arith, length_around (live m) i h (first ∷ []))))
 
@@ -91,16 +91,16 @@ module _ (m : Model) (long : length m.regions ≡ region_places) (l : Laid m) (i
       put : b ≡ laid m (around (live m) i (first ∷ g ∷ []))
       put = then m a _ fits_one cut b (λ xs. insert_at (i + 1) g xs) _ eb (around_two (live m) i h first g)
 
-      pub put-after-asks : Laid b × ((i + 2 ≤ length (live b)) × (length (live b) < region_places))
-      put-after-asks =
+      pub put_after_asks : Laid b × ((i + 2 ≤ length (live b)) × (length (live b) < region_places))
+      put_after_asks =
           let n = ap length (live_of m b _ fits_two put) in
           (laid_of m b _ fits_two put, (omega (arith, length_around (live m) i h (first ∷ g ∷ [])), omega (arith, length_around (live m) i h (first ∷ g ∷ []))))
 
-      pub split-last : last + 1 ≡ end → b ≡ laid m (split (live m) i last g)
-      split-last e =
+      pub split_last : last + 1 ≡ end → b ≡ laid m (split (live m) i last g)
+      split_last e =
           put
           ∙ ap (λ (q : Region). laid m (around (live m) i (resized (last + 1 - q.offset) (at (live m) i) ∷ g ∷ []))) (sym parent_at)
-          ∙ ap (laid m) (split-whole (live m) i h last g (rw parent_at e))
+          ∙ ap (laid m) (split_whole (live m) i h last g (rw parent_at e))
 
       pub split_between : (r : Model) → last + 1 < end → r ≡ laid b (insert_at (i + 2) rest (live b)) → r ≡ laid m (split (live m) i last g)
       split_between r lt er =
@@ -117,7 +117,7 @@ module _ (f : Region → Region) (gs : List Region) (i : ℕ) (h : i < length gs
   beyond_is = ap (map_from f (i + 1)) (split_at gs i no_region h) ∙ map_next (take i gs) i (front gs i h) (at gs i) f (drop (suc i) gs)
 
   length_beyond : length (map_from f (i + 1) gs) ≡ length gs
-  length_beyond = length-mapFrom gs (i + 1) f (omega arith)
+  length_beyond = length_map_from gs (i + 1) f (omega arith)
 
   at_beyond : at (map_from f (i + 1) gs) i ≡ at gs i
   at_beyond = rw beyond_is (get_or_at (take i gs) (at gs i) (map f (drop (suc i) gs)) no_region i (front gs i h))
@@ -131,7 +131,7 @@ split_beyond gs i r k c h =
     let p = front gs i h.below in
     let e : child_at (at gs i) r + 1 - (at gs i).offset ≡ r + 1 - (at gs i).start = omega (arith, h.low) in
     let f : (at gs i).offset + (at gs i).length - (child_at (at gs i) r + 1) ≡ (at gs i).start + (at gs i).length - (r + 1) = omega (arith, h.low) in
-    rw (beyond_is (moved c 0) gs i h.below, take_at (take i gs) (at gs i ∷ map (moved c 0) (drop (suc i) gs)) i p, get_or_at (take i gs) (at gs i) (map (moved c 0) (drop (suc i) gs)) no_region i p, drop-next (take i gs) i p (at gs i) (map (moved c 0) (drop (suc i) gs)), e, f)
+    rw (beyond_is (moved c 0) gs i h.below, take_at (take i gs) (at gs i ∷ map (moved c 0) (drop (suc i) gs)) i p, get_or_at (take i gs) (at gs i) (map (moved c 0) (drop (suc i) gs)) no_region i p, drop_next (take i gs) i p (at gs i) (map (moved c 0) (drop (suc i) gs)), e, f)
 
 -- expand: c rows of node k below row r
 module _ (m : Model) (long : length m.regions ≡ region_places) (l : Laid m) (i r : ℕ) (h : Holds (live m) r i) where
@@ -186,37 +186,37 @@ module _ (m : Model) (few : length (live m) ≤ region_places) (i n : ℕ) (h : 
   earlier_asks t small k le lt = (omega (arith, end_le 0 (live m) t k lt), omega (arith, start_after 0 (live m) t i k (omega arith) lt))
 
   module _ (a : Model) (ea : a ≡ laid m (map_from (moved 0 n) (i + 1) (live m))) where
-    gone-fits : length (map_from (moved 0 n) (i + 1) (live m)) ≤ region_places
-    gone-fits = omega (arith, length_beyond (moved 0 n) (live m) i h)
+    gone_fits : length (map_from (moved 0 n) (i + 1) (live m)) ≤ region_places
+    gone_fits = omega (arith, length_beyond (moved 0 n) (live m) i h)
 
-    pub remove-asks : Laid a × (i < length (live a))
-    remove-asks = (laid_of m a _ gone-fits ea, rw (live_of m a _ gone-fits ea) (omega (arith, length_beyond (moved 0 n) (live m) i h)))
+    pub remove_asks : Laid a × (i < length (live a))
+    remove_asks = (laid_of m a _ gone_fits ea, rw (live_of m a _ gone_fits ea) (omega (arith, length_beyond (moved 0 n) (live m) i h)))
 
     module _ (b : Model) (eb : b ≡ laid a (remove_at i (live a))) where
       gone : remove_at i (map_from (moved 0 n) (i + 1) (live m)) ≡ collapsed (live m) i
       unfolding collapsed
       gone = remove_beyond (moved 0 n) (live m) i h ∙ ap (λ (x : ℕ). take i (live m) ++ map (moved 0 x) (drop (suc i) (live m))) (sym en)
 
-      collapsed-is : b ≡ laid m (collapsed (live m) i)
-      collapsed-is = then m a _ gone-fits ea b (λ xs. remove_at i xs) _ eb gone
+      collapsed_is : b ≡ laid m (collapsed (live m) i)
+      collapsed_is = then m a _ gone_fits ea b (λ xs. remove_at i xs) _ eb gone
 
-      collapsed-fits : length (collapsed (live m) i) ≤ region_places
-      collapsed-fits = omega (arith, ap length (sym gone), length-removeAt (map_from (moved 0 n) (i + 1) (live m)) i (omega (arith, length_beyond (moved 0 n) (live m) i h)), gone-fits)
+      collapsed_fits : length (collapsed (live m) i) ≤ region_places
+      collapsed_fits = omega (arith, ap length (sym gone), length_remove_at (map_from (moved 0 n) (i + 1) (live m)) i (omega (arith, length_beyond (moved 0 n) (live m) i h)), gone_fits)
 
-      pub collapse-asks : total (live m) < 2 ^ 64 → Laid b × (total (live b) < 2 ^ 64)
-      collapse-asks small = merge_asks m b (collapsed (live m) i) collapsed-fits collapsed-is (omega (arith, collapse_total (live m) i h))
+      pub collapse_asks : total (live m) < 2 ^ 64 → Laid b × (total (live b) < 2 ^ 64)
+      collapse_asks small = merge_asks m b (collapsed (live m) i) collapsed_fits collapsed_is (omega (arith, collapse_total (live m) i h))
 
-      pub collapse-done : (v : Model) → v ≡ laid b (joined (live b)) → v ≡ laid m (joined (collapsed (live m) i))
-      collapse-done v e = merge_done m b (collapsed (live m) i) collapsed-fits collapsed-is v e
+      pub collapse_done : (v : Model) → v ≡ laid b (joined (live b)) → v ≡ laid m (joined (collapsed (live m) i))
+      collapse_done v e = merge_done m b (collapsed (live m) i) collapsed_fits collapsed_is v e
 
 -- grow: c rows of node k, from index o on, at row s
 module _ (m : Model) (i s k o c : ℕ) (h : i ≤ length (live m)) (room : length (live m) < region_places) (a : Model) (ea : a ≡ laid m (map_from (moved c 0) i (live m))) where
   gap_fits : length (map_from (moved c 0) i (live m)) ≤ region_places
-  gap_fits = omega (arith, length-mapFrom (live m) i (moved c 0) h)
+  gap_fits = omega (arith, length_map_from (live m) i (moved c 0) h)
 
   pub insert_asks : Laid a × ((i ≤ length (live a)) × (length (live a) < region_places))
   insert_asks =
-      let n : length (live a) ≡ length (live m) = ap length (live_of m a _ gap_fits ea) ∙ length-mapFrom (live m) i (moved c 0) h in
+      let n : length (live a) ≡ length (live m) = ap length (live_of m a _ gap_fits ea) ∙ length_map_from (live m) i (moved c 0) h in
       (laid_of m a _ gap_fits ea, (omega arith, omega arith))
 
   module _ (b : Model) (eb : b ≡ laid a (insert_at i (region s k o c) (live a))) where
@@ -224,16 +224,16 @@ module _ (m : Model) (i s k o c : ℕ) (h : i ≤ length (live m)) (room : lengt
     unfolding grown
     filled = insert_between (take i (live m)) (map (moved c 0) (drop i (live m))) (region s k o c ∷ []) i (length-take-le i (live m) h)
 
-    grown-is : b ≡ laid m (grown (live m) i s k o c)
-    grown-is = then m a _ gap_fits ea b (λ xs. insert_at i (region s k o c) xs) _ eb filled
+    grown_is : b ≡ laid m (grown (live m) i s k o c)
+    grown_is = then m a _ gap_fits ea b (λ xs. insert_at i (region s k o c) xs) _ eb filled
 
-    grown-fits : length (grown (live m) i s k o c) ≤ region_places
-    grown-fits =
-        let n = length-mapFrom (live m) i (moved c 0) h in
-        omega (arith, ap length (sym filled), length-insertAt (map_from (moved c 0) i (live m)) i (region s k o c) (omega arith))
+    grown_fits : length (grown (live m) i s k o c) ≤ region_places
+    grown_fits =
+        let n = length_map_from (live m) i (moved c 0) h in
+        omega (arith, ap length (sym filled), length_insert_at (map_from (moved c 0) i (live m)) i (region s k o c) (omega arith))
 
-    pub grow-asks : total (live m) + c < 2 ^ 64 → Laid b × (total (live b) < 2 ^ 64)
-    grow-asks small = merge_asks m b (grown (live m) i s k o c) grown-fits grown-is (omega (arith, grow_total (live m) i s k o c))
+    pub grow_asks : total (live m) + c < 2 ^ 64 → Laid b × (total (live b) < 2 ^ 64)
+    grow_asks small = merge_asks m b (grown (live m) i s k o c) grown_fits grown_is (omega (arith, grow_total (live m) i s k o c))
 
-    pub grow-done : (v : Model) → v ≡ laid b (joined (live b)) → v ≡ laid m (joined (grown (live m) i s k o c))
-    grow-done v e = merge_done m b (grown (live m) i s k o c) grown-fits grown-is v e
+    pub grow_done : (v : Model) → v ≡ laid b (joined (live b)) → v ≡ laid m (joined (grown (live m) i s k o c))
+    grow_done v e = merge_done m b (grown (live m) i s k o c) grown_fits grown_is v e

@@ -200,22 +200,22 @@ collapse_total gs i h =
 -- rows put in at row s, before region i
 module _ (gs : List Region) (i s k o c : ℕ) where
   module _ (t : Tiled 0 gs) (e : total (take i gs) ≡ s) (c0 : 0 < c) where
-    grow-tiled : Tiled 0 (grown gs i s k o c)
+    grow_tiled : Tiled 0 (grown gs i s k o c)
     unfolding grown
-    grow-tiled =
+    grow_tiled =
         let u = tiled_split 0 (take i gs) (drop i gs) (rw (take-append-drop i gs) t) in
         let f : 0 + total (take i gs) + c - 0 ≡ 0 + total (take i gs) + c = omega arith in
         tiled_append 0 (take i gs) _ u.0 (omega arith, c0, rw f at (tiled_moved c 0 (0 + total (take i gs)) (drop i gs) (omega arith) u.1))
 
-    grow-spread : spread (grown gs i s k o c) ≡ insert s (stretch k o c) (spread gs)
+    grow_spread : spread (grown gs i s k o c) ≡ insert s (stretch k o c) (spread gs)
     unfolding grown
-    grow-spread =
+    grow_spread =
         spread_append (take i gs) _ ∙ ap (λ (l : List Row). spread (take i gs) ++ (stretch k o c ++ l)) (spread_moved _ _ (drop i gs))
         ∙ sym (insert_between (spread (take i gs)) (spread (drop i gs)) (stretch k o c) s (length_spread (take i gs) ∙ e))
         ∙ ap (insert s (stretch k o c)) (sym (spread_append (take i gs) (drop i gs)) ∙ ap spread (take-append-drop i gs))
 
     pub grow_rows : joined (grown gs i s k o c) ≡ runs 0 (insert s (stretch k o c) (spread gs))
-    grow_rows = joined_runs 0 (grown gs i s k o c) grow-tiled ∙ ap (runs 0) grow-spread
+    grow_rows = joined_runs 0 (grown gs i s k o c) grow_tiled ∙ ap (runs 0) grow_spread
 
   pub grow_total : total (grown gs i s k o c) ≡ total gs + c
   unfolding grown

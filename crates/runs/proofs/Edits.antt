@@ -22,14 +22,14 @@ module _ {A : Type 0} where
   get_d_after p q n k d e = subst (λ (m : ℕ). get_or (p ++ q) (m + k) d ≡ get_or q k d) e (get_or-append-add p q k d)
 
   -- the k elements from the place j on changed by f: what a loop that maps from j on has done so far
-  abbrev pub mapPart : (A → A) → ℕ → ℕ → List A → List A
-  mapPart f j k l = take j l ++ (map f (take k (drop j l)) ++ drop k (drop j l))
+  abbrev pub map_part : (A → A) → ℕ → ℕ → List A → List A
+  map_part f j k l = take j l ++ (map f (take k (drop j l)) ++ drop k (drop j l))
 
   module _ (f : A → A) (d : A) where
-    front-more : (l : List A) (k : ℕ) → k < length l → set (map f (take k l) ++ drop k l) k (f (get_or l k d)) ≡ map f (take (suc k) l) ++ drop (suc k) l
-    front-more [] k lt = absurd (omega arith)
-    front-more (x ∷ xs) zero lt = refl
-    front-more (x ∷ xs) (suc k) lt = ap (λ (t : List A). f x ∷ t) (front-more xs k (omega arith))
+    front_more : (l : List A) (k : ℕ) → k < length l → set (map f (take k l) ++ drop k l) k (f (get_or l k d)) ≡ map f (take (suc k) l) ++ drop (suc k) l
+    front_more [] k lt = absurd (omega arith)
+    front_more (x ∷ xs) zero lt = refl
+    front_more (x ∷ xs) (suc k) lt = ap (λ (t : List A). f x ∷ t) (front_more xs k (omega arith))
 
     front_at : (l : List A) (k : ℕ) → k < length l → get_or (map f (take k l) ++ drop k l) k d ≡ get_or l k d
     front_at [] k lt = absurd (omega arith)
@@ -37,7 +37,7 @@ module _ {A : Type 0} where
     front_at (x ∷ xs) (suc k) lt = front_at xs k (omega arith)
 
     module _ (l : List A) (j : ℕ) where
-      pub part_none : mapPart f j (j - j) l ≡ l
+      pub part_none : map_part f j (j - j) l ≡ l
       part_none = let e : j - j ≡ 0 = omega arith in rw e (take-append-drop j l)
 
       module _ (i : ℕ) (le : j ≤ i) (lt : i < length l) where
@@ -50,18 +50,18 @@ module _ {A : Type 0} where
         long : length (take j l) ≡ j
         long = length-take-le j l (omega arith)
 
-        pub part_at : get_or (mapPart f j (i - j) l) i d ≡ get_or l i d
+        pub part_at : get_or (map_part f j (i - j) l) i d ≡ get_or l i d
         part_at =
-            subst (λ (n : ℕ). get_or (mapPart f j (i - j) l) n d ≡ get_or l n d) before
+            subst (λ (n : ℕ). get_or (map_part f j (i - j) l) n d ≡ get_or l n d) before
             (get_d_after (take j l) _ j (i - j) d long ∙ front_at (drop j l) (i - j) within ∙ get_or-drop j l (i - j) d)
 
-        pub part-more : set (mapPart f j (i - j) l) i (f (get_or l i d)) ≡ mapPart f j (i + 1 - j) l
-        part-more =
+        pub part_more : set (map_part f j (i - j) l) i (f (get_or l i d)) ≡ map_part f j (i + 1 - j) l
+        part_more =
             let more : i + 1 - j ≡ suc (i - j) = omega arith in
             rw more
-            (subst (λ (n : ℕ). set (mapPart f j (i - j) l) n (f (get_or l n d)) ≡ mapPart f j (suc (i - j)) l) before
+            (subst (λ (n : ℕ). set (map_part f j (i - j) l) n (f (get_or l n d)) ≡ map_part f j (suc (i - j)) l) before
             (rw (← get_or-drop)
-            (set_after (take j l) _ j (i - j) _ long ∙ ap (λ (t : List A). take j l ++ t) (front-more (drop j l) (i - j) within))))
+            (set_after (take j l) _ j (i - j) _ long ∙ ap (λ (t : List A). take j l ++ t) (front_more (drop j l) (i - j) within))))
 
   -- the elements of i to c moved up by one, with what was at i still at i: a loop that makes room, so far
   abbrev pub gap : ℕ → ℕ → List A → List A
@@ -71,8 +71,8 @@ module _ {A : Type 0} where
   gap_set l r i v d lt = rw (take-suc l i d lt, append_snoc) (set_at (take i l) _ r v i (length-take-le i l (omega arith)))
 
   module _ (l : List A) (c : ℕ) (d : A) (fits : c < length l) where
-    pub gap-none : gap c c l ≡ l
-    gap-none = rw (slice_empty c l) (take-append-drop (suc c) l)
+    pub gap_none : gap c c l ≡ l
+    gap_none = rw (slice_empty c l) (take-append-drop (suc c) l)
 
     pub gap_at : (i : ℕ) → i ≤ c → 0 < i → get_or (gap i c l) (i - 1) d ≡ get_or l (i - 1) d
     gap_at i le pos =
@@ -85,8 +85,8 @@ module _ {A : Type 0} where
         let e : suc i - 1 ≡ i = omega arith in
         rw e (gap_set l _ (suc i) (get_or l i d) d (omega arith) ∙ rw (slice-cons i c l d (omega arith) (omega arith)))
 
-    gap-put : (j : ℕ) (x : A) → j ≤ c → set (gap j c l) j x ≡ take j l ++ (x ∷ (slice j c l ++ drop (suc c) l))
-    gap-put j x le = gap_set l _ j x d (omega arith)
+    gap_put : (j : ℕ) (x : A) → j ≤ c → set (gap j c l) j x ≡ take j l ++ (x ∷ (slice j c l ++ drop (suc c) l))
+    gap_put j x le = gap_set l _ j x d (omega arith)
 
   -- the elements after j, to i, moved down by one, with what was at i still at i: a loop that shuts a gap, so far
   abbrev pub shut : ℕ → ℕ → List A → List A
@@ -105,76 +105,76 @@ module _ {A : Type 0} where
     pub shut_at : i + 1 < length l → get_or (shut j i l) (i + 1) d ≡ get_or l (i + 1) d
     shut_at h = get_d_after (take j l ++ slice (suc j) (suc i) l) (drop i l) i 1 d (front (omega arith)) ∙ get_or-drop i l 1 d
 
-    shut-put : (x : A) → set (shut j i l) i x ≡ (take j l ++ slice (suc j) (suc i) l) ++ (x ∷ drop (suc i) l)
-    shut-put x = rw (drop-cons l i d lt) (set_at (take j l ++ slice (suc j) (suc i) l) _ _ x i (front (omega arith)))
+    shut_put : (x : A) → set (shut j i l) i x ≡ (take j l ++ slice (suc j) (suc i) l) ++ (x ∷ drop (suc i) l)
+    shut_put x = rw (drop-cons l i d lt) (set_at (take j l ++ slice (suc j) (suc i) l) _ _ x i (front (omega arith)))
 
-    pub shut-more : i + 1 < length l → set (shut j i l) i (get_or l (i + 1) d) ≡ shut j (i + 1) l
-    shut-more h =
+    pub shut_more : i + 1 < length l → set (shut j i l) i (get_or l (i + 1) d) ≡ shut j (i + 1) l
+    shut_more h =
         let e : i + 1 ≡ suc i = omega arith in
-        shut-put (get_or l (i + 1) d) ∙ rw (e, slice_snoc l (suc j) (suc i) d (omega arith) (omega arith), ← append_assoc, append_snoc)
+        shut_put (get_or l (i + 1) d) ∙ rw (e, slice_snoc l (suc j) (suc i) d (omega arith) (omega arith), ← append_assoc, append_snoc)
 
   module _ (xs : List A) (j : ℕ) where
-    pub length-mapFrom : (f : A → A) → j ≤ length xs → length (map_from f j xs) ≡ length xs
-    length-mapFrom f h = rw (length-append, length-take-le j xs h, length-map, length-drop) (omega arith)
+    pub length_map_from : (f : A → A) → j ≤ length xs → length (map_from f j xs) ≡ length xs
+    length_map_from f h = rw (length-append, length-take-le j xs h, length-map, length-drop) (omega arith)
 
-    pub length-insertAt : (x : A) → j ≤ length xs → length (insert_at j x xs) ≡ length xs + 1
-    length-insertAt x h = rw (length-append, length-take-le j xs h, length-drop) (omega arith)
+    pub length_insert_at : (x : A) → j ≤ length xs → length (insert_at j x xs) ≡ length xs + 1
+    length_insert_at x h = rw (length-append, length-take-le j xs h, length-drop) (omega arith)
 
-    pub length-removeAt : j < length xs → length (remove_at j xs) + 1 ≡ length xs
-    length-removeAt h = rw (length-append, length-take-le j xs (omega arith), length-drop) (omega arith)
+    pub length_remove_at : j < length xs → length (remove_at j xs) + 1 ≡ length xs
+    length_remove_at h = rw (length-append, length-take-le j xs (omega arith), length-drop) (omega arith)
 
   -- a list laid into n places, with z in those left
   module _ (n : ℕ) (z : A) where
-    take-replicate : (m k : ℕ) → m ≤ k → take m (replicate k z) ≡ replicate m z
-    take-replicate zero k h = refl
-    take-replicate (suc m) zero h = absurd (omega arith)
-    take-replicate (suc m) (suc k) h = ap (λ (t : List A). z ∷ t) (take-replicate m k (omega arith))
+    take_replicate : (m k : ℕ) → m ≤ k → take m (replicate k z) ≡ replicate m z
+    take_replicate zero k h = refl
+    take_replicate (suc m) zero h = absurd (omega arith)
+    take_replicate (suc m) (suc k) h = ap (λ (t : List A). z ∷ t) (take_replicate m k (omega arith))
 
-    pub pad-is : (xs : List A) (k : ℕ) → length xs + k ≡ n → pad n z xs ≡ xs ++ replicate k z
+    pub pad_is : (xs : List A) (k : ℕ) → length xs + k ≡ n → pad n z xs ≡ xs ++ replicate k z
     unfolding pad
-    pad-is xs k e =
+    pad_is xs k e =
         subst (λ (m : ℕ). take m (xs ++ replicate n z) ≡ xs ++ replicate k z) e
-        (take-append-add xs (replicate n z) k ∙ ap (λ (t : List A). xs ++ t) (take-replicate k n (omega arith)))
+        (take-append-add xs (replicate n z) k ∙ ap (λ (t : List A). xs ++ t) (take_replicate k n (omega arith)))
 
     module _ (xs : List A) (fits : length xs ≤ n) where
       split : pad n z xs ≡ xs ++ replicate (n - length xs) z
-      split = pad-is xs (n - length xs) (omega arith)
+      split = pad_is xs (n - length xs) (omega arith)
 
-      pub take-pad : take (length xs) (pad n z xs) ≡ xs
-      take-pad = rw split (take_at xs _ (length xs) refl)
+      pub take_pad : take (length xs) (pad n z xs) ≡ xs
+      take_pad = rw split (take_at xs _ (length xs) refl)
 
-      pub set-pad : (i : ℕ) (x : A) → i < length xs → set (pad n z xs) i x ≡ pad n z (set xs i x)
-      set-pad i x h =
+      pub set_pad : (i : ℕ) (x : A) → i < length xs → set (pad n z xs) i x ≡ pad n z (set xs i x)
+      set_pad i x h =
           rw split (set-append_left xs _ i x h)
-          ∙ sym (pad-is (set xs i x) (n - length xs) (rw length-set (omega arith)))
+          ∙ sym (pad_is (set xs i x) (n - length xs) (rw length-set (omega arith)))
 
-      pub map-pad : (f : A → A) (j : ℕ) → j ≤ length xs → mapPart f j (length xs - j) (pad n z xs) ≡ pad n z (map_from f j xs)
-      map-pad f j h =
+      pub map_pad : (f : A → A) (j : ℕ) → j ≤ length xs → map_part f j (length xs - j) (pad n z xs) ≡ pad n z (map_from f j xs)
+      map_pad f j h =
           let long : length (drop j xs) ≡ length xs - j = length-drop j xs in
           rw (split, take-append-le j xs _ h, drop-append-le j xs _ h, take_at (drop j xs) _ (length xs - j) long, drop_at (drop j xs) _ (length xs - j) long)
-          (sym (append_assoc (take j xs) _ _) ∙ sym (pad-is (map_from f j xs) (n - length xs) (omega (arith, length-mapFrom xs j f h))))
+          (sym (append_assoc (take j xs) _ _) ∙ sym (pad_is (map_from f j xs) (n - length xs) (omega (arith, length_map_from xs j f h))))
 
-      pub add-pad : (x : A) → length xs < n → set (pad n z xs) (length xs) x ≡ pad n z (xs ++ x ∷ [])
-      add-pad x lt =
+      pub add_pad : (x : A) → length xs < n → set (pad n z xs) (length xs) x ≡ pad n z (xs ++ x ∷ [])
+      add_pad x lt =
           let e : n - length xs ≡ suc (n - suc (length xs)) = omega arith in
           rw (split, e) (set_at xs z _ x (length xs) refl ∙ sym (append_snoc xs x _))
-          ∙ sym (pad-is (xs ++ x ∷ []) (n - suc (length xs)) (rw length-append (omega arith)))
+          ∙ sym (pad_is (xs ++ x ∷ []) (n - suc (length xs)) (rw length-append (omega arith)))
 
-      pub insert-pad : (j : ℕ) (x : A) → j ≤ length xs → length xs < n → set (gap j (length xs) (pad n z xs)) j x ≡ pad n z (insert_at j x xs)
-      insert-pad j x h lt =
+      pub insert_pad : (j : ℕ) (x : A) → j ≤ length xs → length xs < n → set (gap j (length xs) (pad n z xs)) j x ≡ pad n z (insert_at j x xs)
+      insert_pad j x h lt =
           let e : n - length xs ≡ suc (n - suc (length xs)) = omega arith in
           let long : length (pad n z xs) ≡ n = rw (split, length-append, length-replicate) (omega arith) in
-          gap-put (pad n z xs) (length xs) z (omega arith) j x h
+          gap_put (pad n z xs) (length xs) z (omega arith) j x h
           ∙ rw (split, take-append-le j xs _ h, take_at xs _ (length xs) refl, e, ← append_snoc xs z, drop_at (xs ++ z ∷ []) _ (suc (length xs)) (rw (length-append) (omega arith)))
-          (sym (append_assoc (take j xs) _ _) ∙ sym (pad-is (insert_at j x xs) (n - suc (length xs)) (omega (arith, length-insertAt xs j x h))))
+          (sym (append_assoc (take j xs) _ _) ∙ sym (pad_is (insert_at j x xs) (n - suc (length xs)) (omega (arith, length_insert_at xs j x h))))
 
-      pub remove-pad : (j c : ℕ) → j < length xs → c + 1 ≡ length xs → set (shut j c (pad n z xs)) c z ≡ pad n z (remove_at j xs)
-      remove-pad j c h e =
+      pub remove_pad : (j c : ℕ) → j < length xs → c + 1 ≡ length xs → set (shut j c (pad n z xs)) c z ≡ pad n z (remove_at j xs)
+      remove_pad j c h e =
           let long : length (pad n z xs) ≡ n = rw (split, length-append, length-replicate) (omega arith) in
           let s : suc c ≡ length xs = omega arith in
-          shut-put (pad n z xs) j c z (omega arith) (omega arith) z
+          shut_put (pad n z xs) j c z (omega arith) (omega arith) z
           ∙ rw (s, split, take-append-le j xs _ (omega arith), take_at xs _ (length xs) refl, drop_at xs _ (length xs) refl)
-          (sym (pad-is (remove_at j xs) (suc (n - length xs)) (omega (arith, length-removeAt xs j h))))
+          (sym (pad_is (remove_at j xs) (suc (n - length xs)) (omega (arith, length_remove_at xs j h))))
 
   -- edits at the seam of two lists
   pub insert_between : (p q ys : List A) (i : ℕ) → length p ≡ i → insert i ys (p ++ q) ≡ p ++ (ys ++ q)
@@ -190,19 +190,19 @@ module _ {A : Type 0} where
   map_seam p i long f t = rw (take_at p t i long, drop_at p t i long)
 
   module _ (p : List A) (i : ℕ) (long : length p ≡ i) (x : A) where
-    pub drop-next : (t : List A) → drop (suc i) (p ++ x ∷ t) ≡ t
-    drop-next t = let e : i + 1 ≡ suc i = add-one i in rw (← append_snoc p x t, ← e) (drop_at (p ++ x ∷ []) t (i + 1) (past p i long x))
+    pub drop_next : (t : List A) → drop (suc i) (p ++ x ∷ t) ≡ t
+    drop_next t = let e : i + 1 ≡ suc i = add-one i in rw (← append_snoc p x t, ← e) (drop_at (p ++ x ∷ []) t (i + 1) (past p i long x))
 
     pub remove_seam : (t : List A) → remove_at i (p ++ x ∷ t) ≡ p ++ t
-    remove_seam t = rw (take_at p (x ∷ t) i long, drop-next t)
+    remove_seam t = rw (take_at p (x ∷ t) i long, drop_next t)
 
     pub map_next : (f : A → A) (t : List A) → map_from f (i + 1) (p ++ x ∷ t) ≡ p ++ (x ∷ map f t)
     map_next f t = rw (← append_snoc p x t, map_seam (p ++ x ∷ []) (i + 1) (past p i long x) f t) (append_snoc p x (map f t))
 
-    pub insert-next : (y : A) (t : List A) → insert_at (i + 1) y (p ++ x ∷ t) ≡ p ++ (x ∷ y ∷ t)
-    insert-next y t = rw (← append_snoc p x t, insert_between (p ++ x ∷ []) t (y ∷ []) (i + 1) (past p i long x)) (append_snoc p x (y ∷ t))
+    pub insert_next : (y : A) (t : List A) → insert_at (i + 1) y (p ++ x ∷ t) ≡ p ++ (x ∷ y ∷ t)
+    insert_next y t = rw (← append_snoc p x t, insert_between (p ++ x ∷ []) t (y ∷ []) (i + 1) (past p i long x)) (append_snoc p x (y ∷ t))
 
   pub insert_third : (p : List A) (i : ℕ) → length p ≡ i → (x y z : A) (t : List A) → insert_at (i + 2) z (p ++ x ∷ y ∷ t) ≡ p ++ (x ∷ y ∷ z ∷ t)
   insert_third p i long x y z t =
       let e : i + 2 ≡ i + 1 + 1 = omega arith in
-      rw (e, ← append_snoc p x (y ∷ t), insert-next (p ++ x ∷ []) (i + 1) (past p i long x) y z t) (append_snoc p x (y ∷ z ∷ t))
+      rw (e, ← append_snoc p x (y ∷ t), insert_next (p ++ x ∷ []) (i + 1) (past p i long x) y z t) (append_snoc p x (y ∷ z ∷ t))

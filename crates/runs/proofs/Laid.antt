@@ -12,11 +12,11 @@ use Rattle.model.specs.Regions.{no_region}
 use Rattle.runs.specs.Regions.{at}
 use Rattle.runs.specs.Edits.{map_from, insert_at, remove_at}
 use Rattle.runs.specs.Laid.{with_regions, with_counted, live, laid, Laid}
-use Rattle.runs.proofs.Edits.{mapPart, gap, shut, length-mapFrom, length-insertAt, length-removeAt, take-pad, set-pad, map-pad, insert-pad, remove-pad}
+use Rattle.runs.proofs.Edits.{map_part, gap, shut, length_map_from, length_insert_at, length_remove_at, take_pad, set_pad, map_pad, insert_pad, remove_pad}
 
 module _ (m : Model) (gs : List Region) (fits : length gs ≤ region_places) where
   live_laid : live (laid m gs) ≡ gs
-  live_laid = take-pad region_places no_region gs fits
+  live_laid = take_pad region_places no_region gs fits
 
   laid_laid : Laid (laid m gs)
   laid_laid = ap (laid m) (sym live_laid)
@@ -56,21 +56,21 @@ module _ (m : Model) (long : length m.regions ≡ region_places) (l : Laid m) wh
   laid_by f = ap (f m.region_count) regions_are ∙ ap (λ (n : ℕ). f n (pad region_places no_region (live m))) (sym live_count)
 
   pub set_laid : (j : ℕ) (x : Region) → j < length (live m) → with_regions m (set m.regions j x) ≡ laid m (set (live m) j x)
-  set_laid j x h = λ i. with_counted m ((laid_by (λ n r. set r j x) ∙ set-pad region_places no_region (live m) live_few j x h) i) ((sym live_count ∙ sym (length-set (live m) j x)) i)
+  set_laid j x h = λ i. with_counted m ((laid_by (λ n r. set r j x) ∙ set_pad region_places no_region (live m) live_few j x h) i) ((sym live_count ∙ sym (length-set (live m) j x)) i)
 
-  pub map_laid : (f : Region → Region) (j : ℕ) → j ≤ length (live m) → with_regions m (mapPart f j (m.region_count - j) m.regions) ≡ laid m (map_from f j (live m))
-  map_laid f j h = λ i. with_counted m ((laid_by (λ n r. mapPart f j (n - j) r) ∙ map-pad region_places no_region (live m) live_few f j h) i) ((sym live_count ∙ sym (length-mapFrom (live m) j f h)) i)
+  pub map_laid : (f : Region → Region) (j : ℕ) → j ≤ length (live m) → with_regions m (map_part f j (m.region_count - j) m.regions) ≡ laid m (map_from f j (live m))
+  map_laid f j h = λ i. with_counted m ((laid_by (λ n r. map_part f j (n - j) r) ∙ map_pad region_places no_region (live m) live_few f j h) i) ((sym live_count ∙ sym (length_map_from (live m) j f h)) i)
 
   pub insert_laid : (j : ℕ) (x : Region) → j ≤ length (live m) → length (live m) < region_places → with_counted m (set (gap j m.region_count m.regions) j x) (m.region_count + 1) ≡ laid m (insert_at j x (live m))
   insert_laid j x h lt =
-      λ i. with_counted m ((laid_by (λ n r. set (gap j n r) j x) ∙ insert-pad region_places no_region (live m) live_few j x h lt) i)
-      ((ap (λ (n : ℕ). n + 1) (sym live_count) ∙ sym (length-insertAt (live m) j x h)) i)
+      λ i. with_counted m ((laid_by (λ n r. set (gap j n r) j x) ∙ insert_pad region_places no_region (live m) live_few j x h lt) i)
+      ((ap (λ (n : ℕ). n + 1) (sym live_count) ∙ sym (length_insert_at (live m) j x h)) i)
 
   pub remove_laid : (j : ℕ) → j < length (live m)
       → with_counted m (set (shut j (m.region_count - 1) m.regions) (m.region_count - 1) no_region) (m.region_count - 1) ≡ laid m (remove_at j (live m))
   remove_laid j h =
-      λ i. with_counted m ((laid_by (λ n r. set (shut j (n - 1) r) (n - 1) no_region) ∙ remove-pad region_places no_region (live m) live_few j (length (live m) - 1) h (omega arith)) i)
+      λ i. with_counted m ((laid_by (λ n r. set (shut j (n - 1) r) (n - 1) no_region) ∙ remove_pad region_places no_region (live m) live_few j (length (live m) - 1) h (omega arith)) i)
       (count i)
     where
       count : m.region_count - 1 ≡ length (remove_at j (live m))
-      count = omega (arith, live_count, length-removeAt (live m) j h)
+      count = omega (arith, live_count, length_remove_at (live m) j h)

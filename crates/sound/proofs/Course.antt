@@ -20,7 +20,7 @@ use Rattle.model.specs.Sound.{same_region, same_list}
 use Rattle.nodes.proofs.Tests.{fail_l, fail_r, parted}
 use Rattle.sound.specs.Tests.{is_next, begins, regions_ok}
 use Rattle.sound.proofs.Runs.{region_at, zero_from, fits, fits_count, fits_none, fits_at, stretch, length_stretch, HeadNot, runs_some, runs_stretch}
-use Rattle.sound.proofs.Walk.{rest, Place, Next, to_end, to-child, next, rest_up, rest_none, rest_all, open_length, skip_length, over_child, end_not, child_not}
+use Rattle.sound.proofs.Walk.{rest, Place, Next, to_end, to_child, next, rest_up, rest_none, rest_all, open_length, skip_length, over_child, end_not, child_not}
 use Rattle.lists.proofs.Bools.{both, and, differ}
 use Rattle.tree.proofs.Listing.{open_child_lem}
 use Rattle.tree.proofs.Regions.{regions_fit}
@@ -180,31 +180,31 @@ module _ (ns : List Node) (w : WellFormed ns) (gs : List Region) (size : length 
     where
       go : Next ns w (suc c) 0 → whole ≡ false
       go (to_end n q h r) = bad j s (suc c) 0 n (suc c) (direct_of ns (suc c)) l a r (end_not ns w (suc c) a.there.opened) (node_not (region_at gs j) s (suc c) 0 (suc n) 0 d)
-      go (to-child n k q z h r) = bad j s (suc c) 0 n (suc k) 0 l a r (child_not ns w (suc c) (0 + n) k z) (node_not (region_at gs j) s (suc c) 0 (suc n) 0 d)
+      go (to_child n k q z h r) = bad j s (suc c) 0 n (suc k) 0 l a r (child_not ns w (suc c) (0 + n) k z) (node_not (region_at gs j) s (suc c) 0 (suc n) 0 d)
 
   module _ (j s p i : ℕ) (l : j + 1 < 512) (inside : i < direct_of ns p) where
     abbrev g : Region
     g = region_at gs j
 
     -- the region does not begin here, or has no rows, or too many
-    pub course-bad : begins (region_at gs j) s p i (direct_of ns p - i) ≡ false → Course ns gs count j s p i → false ≡ whole
-    course-bad b (off h q e) = sym e
-    course-bad b (on a) = sym (go (ahead p i inside))
+    pub course_bad : begins (region_at gs j) s p i (direct_of ns p - i) ≡ false → Course ns gs count j s p i → false ≡ whole
+    course_bad b (off h q e) = sym e
+    course_bad b (on a) = sym (go (ahead p i inside))
       where
         go : Next ns w p i → whole ≡ false
         go (to_end n q h r) = bad j s p i n p (direct_of ns p) (omega arith) a r (end_not ns w p a.there.opened) (begins_not (region_at gs j) s p i (suc n) (direct_of ns p - i) b (omega arith) (omega arith))
-        go (to-child n c q z h r) = bad j s p i n (suc c) 0 (omega arith) a r (child_not ns w p (i + n) c z) (begins_not (region_at gs j) s p i (suc n) (direct_of ns p - i) b (omega arith) (omega arith))
+        go (to_child n c q z h r) = bad j s p i n (suc c) 0 (omega arith) a r (child_not ns w p (i + n) c z) (begins_not (region_at gs j) s p i (suc n) (direct_of ns p - i) b (omega arith) (omega arith))
 
     module _ (b : begins (region_at gs j) s p i (direct_of ns p - i) ≡ true) where
       facts : (g.start ≡ s) × (g.node ≡ p) × (g.offset ≡ i) × (0 < g.length) × (g.length ≤ direct_of ns p - i)
       facts = begins_parts g s p i 0 (direct_of ns p - i) b
 
-      pub course-length : (0 < (region_at gs j).length) × ((region_at gs j).length ≤ direct_of ns p - i)
-      course-length = (facts.3, facts.4)
+      pub course_length : (0 < (region_at gs j).length) × ((region_at gs j).length ≤ direct_of ns p - i)
+      course_length = (facts.3, facts.4)
 
-      pub course-fits : Course ns gs count j s p i → s + (region_at gs j).length ≤ length (rows ns)
-      course-fits (on a) = omega (arith, a.left, skip_length ns w p g.length i (omega (arith, facts.4)))
-      course-fits (off h q e) = omega (arith, q, skip_length ns w p g.length i (omega (arith, facts.4)))
+      pub course_fits : Course ns gs count j s p i → s + (region_at gs j).length ≤ length (rows ns)
+      course_fits (on a) = omega (arith, a.left, skip_length ns w p g.length i (omega (arith, facts.4)))
+      course_fits (off h q e) = omega (arith, q, skip_length ns w p g.length i (omega (arith, facts.4)))
 
       -- the region's last row is an open child's
       enters : (y c : ℕ) → y + 1 ≡ i + (region_at gs j).length → open_child ns p y ≡ suc c → Course ns gs count j s p i → Course ns gs count (j + 1) (s + (region_at gs j).length) (suc c) 0
@@ -221,7 +221,7 @@ module _ (ns : List Node) (w : WellFormed ns) (gs : List Region) (size : length 
 
           go : Next ns w p i → Course ns gs count (j + 1) (s + g.length) (suc c) 0
           go (to_end n q h r) = absurd (omega (arith, h y (omega (arith, facts.3)) low))
-          go (to-child n d q f h r) = three (ℕ_discrete (i + n) y) (dec_lt (i + n) y)
+          go (to_child n d q f h r) = three (ℕ_discrete (i + n) y) (dec_lt (i + n) y)
             where
               three : Dec (i + n ≡ y) → Dec (i + n < y) → Course ns gs count (j + 1) (s + g.length) (suc c) 0
               three (yes m) v =
@@ -234,9 +234,9 @@ module _ (ns : List Node) (w : WellFormed ns) (gs : List Region) (size : length 
                   (bad j s p i n (suc d) 0 (omega arith) a r (child_not ns w p (i + n) d f) (length_not g s p i (suc n) 0 (λ e. omega arith)))
               three (no m) (no v) = absurd (omega (arith, h y (omega (arith, facts.3)) (omega arith)))
 
-      pub course-in : (c : ℕ) → is_next (node_at ns c) c p (i + (region_at gs j).length - 1) ≡ true → Course ns gs count j s p i → Course ns gs count (j + 1) (s + (region_at gs j).length) c 0
-      course-in zero e a = absurd (omega (arith, (next_parts (node_at ns 0) 0 p (i + (region_at gs j).length - 1) e).0))
-      course-in (suc c) e a = enters (i + (region_at gs j).length - 1) c (omega (arith, facts.3)) (next_child_lem c p (i + (region_at gs j).length - 1) e) a
+      pub course_in : (c : ℕ) → is_next (node_at ns c) c p (i + (region_at gs j).length - 1) ≡ true → Course ns gs count j s p i → Course ns gs count (j + 1) (s + (region_at gs j).length) c 0
+      course_in zero e a = absurd (omega (arith, (next_parts (node_at ns 0) 0 p (i + (region_at gs j).length - 1) e).0))
+      course_in (suc c) e a = enters (i + (region_at gs j).length - 1) c (omega (arith, facts.3)) (next_child_lem c p (i + (region_at gs j).length - 1) e) a
 
       -- the next region names no open child at the region's last row
       module _ (k : ℕ) (named : k ≡ cond (ltb (region_at gs (j + 1)).node 256) (region_at gs (j + 1)).node 0) (none : is_next (node_at ns k) k p (i + (region_at gs j).length - 1) ≡ false) where
@@ -252,9 +252,9 @@ module _ (ns : List Node) (w : WellFormed ns) (gs : List Region) (size : length 
                 (good j s p i n (suc c) 0 (omega arith) a r (child_not ns w p (i + n) c f) (begins_same g s p i (suc n) (direct_of ns p - i) b e) (child_place p (i + n) c f))
             go (no e) = bad j s p i n (suc c) 0 (omega arith) a r (child_not ns w p (i + n) c f) (length_not g s p i (suc n) 0 e)
 
-        pub course-along : i + (region_at gs j).length ≡ direct_of ns p → Course ns gs count j s p i → Course ns gs count (j + 1) (s + (region_at gs j).length) p (i + (region_at gs j).length)
-        course-along z (off h q e) = off (record { opened = h.opened; within = omega arith }) (omega (arith, q, skip_length ns w p g.length i (omega arith))) e
-        course-along z (on a) = go (ahead p i inside)
+        pub course_along : i + (region_at gs j).length ≡ direct_of ns p → Course ns gs count j s p i → Course ns gs count (j + 1) (s + (region_at gs j).length) p (i + (region_at gs j).length)
+        course_along z (off h q e) = off (record { opened = h.opened; within = omega arith }) (omega (arith, q, skip_length ns w p g.length i (omega arith))) e
+        course_along z (on a) = go (ahead p i inside)
           where
             place : Place ns p (i + g.length)
             place = record { opened = a.there.opened; within = omega arith }
@@ -264,16 +264,16 @@ module _ (ns : List Node) (w : WellFormed ns) (gs : List Region) (size : length 
                 let e : g.length ≡ suc n = omega arith in
                 let y : direct_of ns p ≡ i + suc n = omega arith in
                 rw e (on (good j s p i n p (i + suc n) (omega arith) a (r ∙ ap (λ (x : ℕ). stretch p i (suc n) ++ rest ns p x) y) (rw (← y) (end_not ns w p a.there.opened)) (begins_same g s p i (suc n) (direct_of ns p - i) b e) (rw (← e) place)))
-            go (to-child n c q f h r) =
+            go (to_child n c q f h r) =
                 off place (omega (arith, a.left, over_child ns w p g.length i (i + n) c (omega arith) (omega arith) (omega arith) f)) (missed n c q f r a)
 
-        pub course-stuck : i + (region_at gs j).length ≢ direct_of ns p → Course ns gs count j s p i → false ≡ whole
-        course-stuck z (off h q e) = sym e
-        course-stuck z (on a) = sym (go (ahead p i inside))
+        pub course_stuck : i + (region_at gs j).length ≢ direct_of ns p → Course ns gs count j s p i → false ≡ whole
+        course_stuck z (off h q e) = sym e
+        course_stuck z (on a) = sym (go (ahead p i inside))
           where
             go : Next ns w p i → whole ≡ false
             go (to_end n q h r) = bad j s p i n p (direct_of ns p) (omega arith) a r (end_not ns w p a.there.opened) (length_not g s p i (suc n) 0 (λ e. z (omega arith)))
-            go (to-child n c q f h r) = missed n c q f r a
+            go (to_child n c q f h r) = missed n c q f r a
 
 -- there are never so many regions
 pub regions_many : (ns : List Node) → WellFormed ns → (gs : List Region) (count : ℕ) → 512 ≤ count → regions_ok ns gs count ≡ false

@@ -142,12 +142,12 @@ pub record Adding (ns : List Node) (k : ℕ) (of : List ℕ) : Type 0 where
   pub left : (p : ℕ) → p < 256 → get_or of p 0 + parts p (drop k ns) ≡ parts p (drop 1 ns)
 
 pub adding_start : (ns : List Node) → Adding ns 1 (replicate 256 0)
-adding_start ns = record { long = length-replicate {A = ℕ} 256 0; left = λ p l. ap (λ (x : ℕ). x + parts p (drop 1 ns)) (get_or-replicate {A = ℕ} 256 p 0 0 l) ∙ zero-add (parts p (drop 1 ns)); small = λ p. omega (arith, zero-everywhere 256 p) }
+adding_start ns = record { long = length-replicate {A = ℕ} 256 0; left = λ p l. ap (λ (x : ℕ). x + parts p (drop 1 ns)) (get_or-replicate {A = ℕ} 256 p 0 0 l) ∙ zero-add (parts p (drop 1 ns)); small = λ p. omega (arith, zero_everywhere 256 p) }
   where
-    zero-everywhere : (n p : ℕ) → get_or (replicate n 0) p 0 ≤ 0
-    zero-everywhere zero p = omega arith
-    zero-everywhere (suc n) zero = omega arith
-    zero-everywhere (suc n) (suc p) = zero-everywhere n p
+    zero_everywhere : (n p : ℕ) → get_or (replicate n 0) p 0 ≤ 0
+    zero_everywhere zero p = omega arith
+    zero_everywhere (suc n) zero = omega arith
+    zero_everywhere (suc n) (suc p) = zero_everywhere n p
 
 module _ (ns : List Node) (k : ℕ) (of : List ℕ) (size : length ns ≡ 256) (l : k < 256) (a : Adding ns k of) where
   abbrev n : Node

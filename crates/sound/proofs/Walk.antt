@@ -158,7 +158,7 @@ module _ (ns : List Node) (w : WellFormed ns) where
   -- the run of rows from a place on: to the node's end, or to the first open child
   pub data Next (p i : ℕ) : Type 0 where
     to_end : (n : ℕ) → i + suc n ≡ direct_of ns p → ((x : ℕ) → i ≤ x → x < direct_of ns p → open_child ns p x ≡ 0) → rest ns p i ≡ stretch p i (suc n) ++ rest ns p (direct_of ns p) → Next p i
-    to-child : (n c : ℕ) → i + n < direct_of ns p → open_child ns p (i + n) ≡ suc c → ((x : ℕ) → i ≤ x → x < i + n → open_child ns p x ≡ 0) → rest ns p i ≡ stretch p i (suc n) ++ rest ns (suc c) 0 → Next p i
+    to_child : (n c : ℕ) → i + n < direct_of ns p → open_child ns p (i + n) ≡ suc c → ((x : ℕ) → i ≤ x → x < i + n → open_child ns p x ≡ 0) → rest ns p i ≡ stretch p i (suc n) ++ rest ns (suc c) 0 → Next p i
 
   module _ (p i : ℕ) where
     quiet : open_child ns p i ≡ 0 → (x : ℕ) → i ≤ x → (suc i ≤ x → open_child ns p x ≡ 0) → open_child ns p x ≡ 0
@@ -168,33 +168,33 @@ module _ (ns : List Node) (w : WellFormed ns) where
         side (yes z) = ap (open_child ns p) z ∙ e
         side (no z) = h (omega arith)
 
-    next-open : (c : ℕ) → i < direct_of ns p → open_child ns p i ≡ suc c → Next p i
-    next-open c l e =
+    next_open : (c : ℕ) → i < direct_of ns p → open_child ns p i ≡ suc c → Next p i
+    next_open c l e =
         let z : i + 0 ≡ i = omega arith in
-        to-child 0 c (omega arith) (ap (open_child ns p) z ∙ e) (λ x a b. absurd (omega arith)) (rest_open p i c l e)
+        to_child 0 c (omega arith) (ap (open_child ns p) z ∙ e) (λ x a b. absurd (omega arith)) (rest_open p i c l e)
 
     next_last : suc i ≡ direct_of ns p → open_child ns p i ≡ 0 → Next p i
     next_last z e =
         to_end 0 (omega arith) (λ x a b. quiet e x a (λ y. absurd (omega arith))) (rest_shut p i (omega arith) e ∙ ap (λ (x : ℕ). (p, i) ∷ rest ns p x) z)
 
-    next-longer : open_child ns p i ≡ 0 → Next p (suc i) → Next p i
-    next-longer e (to_end n q h r) =
+    next_longer : open_child ns p i ≡ 0 → Next p (suc i) → Next p i
+    next_longer e (to_end n q h r) =
         to_end (suc n) (omega arith) (λ x a b. quiet e x a (λ c. h x c b)) (rest_shut p i (omega arith) e ∙ ap {B = List Row} ((p, i) ∷◌) r)
-    next-longer e (to-child n c q d h r) =
+    next_longer e (to_child n c q d h r) =
         let z : i + suc n ≡ suc i + n = omega arith in
-        to-child (suc n) c (omega arith) (ap (open_child ns p) z ∙ d) (λ x a b. quiet e x a (λ y. h x y (omega arith))) (rest_shut p i (omega arith) e ∙ ap {B = List Row} ((p, i) ∷◌) r)
+        to_child (suc n) c (omega arith) (ap (open_child ns p) z ∙ d) (λ x a b. quiet e x a (λ y. h x y (omega arith))) (rest_shut p i (omega arith) e ∙ ap {B = List Row} ((p, i) ∷◌) r)
 
   pub next : (p f i : ℕ) → i + suc f ≡ direct_of ns p → Next p i
   next p zero i l = go (open_child ns p i) refl
     where
       go : (c : ℕ) → open_child ns p i ≡ c → Next p i
       go zero e = next_last p i (omega arith) e
-      go (suc c) e = next-open p i c (omega arith) e
+      go (suc c) e = next_open p i c (omega arith) e
   next p (suc f) i l = go (open_child ns p i) refl (next p f (suc i) (omega arith))
     where
       go : (c : ℕ) → open_child ns p i ≡ c → Next p (suc i) → Next p i
-      go zero e later = next-longer p i e later
-      go (suc c) e later = next-open p i c (omega arith) e
+      go zero e later = next_longer p i e later
+      go (suc c) e later = next_open p i c (omega arith) e
 
   -- the next run is of another node
   abbrev HeadAbove : ℕ → List Row → Type 0

@@ -64,9 +64,9 @@ module _ (m : Model) (size : length m.nodes ≡ 256) where
   formed none places totals b low = places_nodes m.nodes none places (totals_chains m.nodes size places totals b low)
 
   module _ (t : nodes_ok m.nodes 0 m.nodes ≡ true) (totals : totals_ok m.nodes ≡ true) where
-    pub all-rows : (node_at m.nodes 0).total ≡ row_total m.nodes
+    pub all_rows : (node_at m.nodes 0).total ≡ row_total m.nodes
     unfolding total_of rows
-    all-rows = total_rows m.nodes (well t) totals 0 (open_used m.nodes 0 (zero_open m.nodes (well t)))
+    all_rows = total_rows m.nodes (well t) totals 0 (open_used m.nodes 0 (zero_open m.nodes (well t)))
 
     abbrev last : Bool
     last = regions_ok m.nodes m.regions m.region_count && (eqb m.published (row_total m.nodes) && leb (row_total m.nodes) row_limit)
@@ -74,17 +74,17 @@ module _ (m : Model) (size : length m.nodes ≡ 256) where
     rest : (b : Bool) → b ≡ last → b ≡ sound m
     rest b e = keep _ _ _ t (keep _ _ _ (sym (totals_settled m.nodes (well t)) ∙ totals) e) ∙ sym split
 
-    pub regions-bad : regions_ok m.nodes m.regions m.region_count ≡ false → false ≡ sound m
-    regions-bad e = rest false (stop _ _ e)
+    pub regions_bad : regions_ok m.nodes m.regions m.region_count ≡ false → false ≡ sound m
+    regions_bad e = rest false (stop _ _ e)
 
-    pub count-bad : 512 ≤ m.region_count → false ≡ sound m
-    count-bad l = regions-bad (regions_many m.nodes (well t) m.regions m.region_count l)
+    pub count_bad : 512 ≤ m.region_count → false ≡ sound m
+    count_bad l = regions_bad (regions_many m.nodes (well t) m.regions m.region_count l)
 
     module _ (regions : regions_ok m.nodes m.regions m.region_count ≡ true) where
-      pub published-bad : m.published ≢ (node_at m.nodes 0).total → false ≡ sound m
-      published-bad d = rest false (keep _ _ _ regions (stop _ _ (ne_eqb m.published (row_total m.nodes) (λ z. d (z ∙ sym all-rows)))))
+      pub published_bad : m.published ≢ (node_at m.nodes 0).total → false ≡ sound m
+      published_bad d = rest false (keep _ _ _ regions (stop _ _ (ne_eqb m.published (row_total m.nodes) (λ z. d (z ∙ sym all_rows)))))
 
-      pub limit-left : m.published ≡ (node_at m.nodes 0).total → leb m.published row_limit ≡ sound m
-      limit-left h =
-          let e = h ∙ all-rows in
+      pub limit_left : m.published ≡ (node_at m.nodes 0).total → leb m.published row_limit ≡ sound m
+      limit_left h =
+          let e = h ∙ all_rows in
           rest (leb m.published row_limit) (keep _ _ _ regions (keep _ _ _ (eq-eqb m.published (row_total m.nodes) e) (ap (λ (n : ℕ). leb n row_limit) e)))

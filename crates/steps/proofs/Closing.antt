@@ -131,25 +131,25 @@ module _ (ns : List Node) (w : WellFormed ns) (k : ℕ) (o : Opens ns (suc k)) (
       empty j u (no d) (no c) = let f = closed_other (suc j) d c in f ∙ w.empty j (rw f at u)
 
   pub close_pruned : Pruned ns after (suc k)
-  close_pruned = record { less = close_shrunk; away = λ m n. closed_other m (λ e. n (rw e used_here) (inl (ap (to ns) e))) (up-off m n); gone = λ m u h v. let b = ext_branch h in gone m u v b.0 b.1; shut = closed_shut }
+  close_pruned = record { less = close_shrunk; away = λ m n. closed_other m (λ e. n (rw e used_here) (inl (ap (to ns) e))) (up_off m n); gone = λ m u h v. let b = ext_branch h in gone m u v b.0 b.1; shut = closed_shut }
     where
-      up-off : (m : ℕ) → (Used ns m → Under (to ns (suc k)) (to ns m) → ⊥) → up ns m ≢ suc k
-      up-off zero n e = no_open_child 0 w.root.«open» e
-      up-off (suc m) n e = go (bool (used (node_at ns (suc m))))
+      up_off : (m : ℕ) → (Used ns m → Under (to ns (suc k)) (to ns m) → ⊥) → up ns m ≢ suc k
+      up_off zero n e = no_open_child 0 w.root.«open» e
+      up_off (suc m) n e = go (bool (used (node_at ns (suc m))))
         where
           go : (used (node_at ns (suc m)) ≡ true) ⊎ (used (node_at ns (suc m)) ≡ false) → ⊥
           go (inl u) = n u (inr (rw (to_up ns w m u, e) (child_ext (to ns (suc k)) (ix ns (suc m)))))
           go (inr u) = let z : up ns (suc m) ≡ 0 = ap (λ (x : Node). x.parent) (w.empty m u) in omega (arith, sym z ∙ e)
 
-      gone-child : (m b : ℕ) → Used ns m → to ns m ≡ to ns (suc k) · b → Used after m → ⊥
-      gone-child zero b u e v = let d = ap length (sym (to_zero ns w) ∙ e) in omega (arith, length_child (to ns (suc k)) b)
-      gone-child (suc m) b u e v =
+      gone_child : (m b : ℕ) → Used ns m → to ns m ≡ to ns (suc k) · b → Used after m → ⊥
+      gone_child zero b u e v = let d = ap length (sym (to_zero ns w) ∙ e) in omega (arith, length_child (to ns (suc k)) b)
+      gone_child (suc m) b u e v =
           let x = child_inj (to ns (up ns (suc m))) (to ns (suc k)) (ix ns (suc m)) b (sym (to_up ns w m u) ∙ e) in
           let a : up ns (suc m) ≡ suc k = to_inj ns w (up ns (suc m)) (suc k) (above_used ns w m u) used_here x.0 in
           none_used after (suc m) (closed_child (suc m) (λ d. up≢ ns w k used_here (rw d at a)) a) v
 
       gone : (m : ℕ) → Used ns m → Used after m → (b : ℕ) → Under (to ns (suc k) · b) (to ns m) → ⊥
-      gone m u v b (inl e) = gone-child m b u e v
+      gone m u v b (inl e) = gone_child m b u e v
       gone m u v b (inr h) = differ (open_above ns w (to ns (suc k) · b) m u h) (shut_child ns w (suc k) b used_here (none b))
 
   abbrev here : ℕ
@@ -189,17 +189,17 @@ module _ (ns : List Node) (w : WellFormed ns) (k : ℕ) (o : Opens ns (suc k)) (
       (λ x m. let s = filter_in (dec_ext p) (paths ns) m in let b = ext_branch s.1 in of x b.0 b.1 ((lists ns w).of x s.0))
       (λ x m. let s = child_paths_in p 0 many m in
       filter_has (dec_ext p) (paths ns)
-      ((lists ns w).to x (record { up = p; ix = 0 + s.0; is = s.2; open_up = open_at_lem ns w (suc k) o; inside = rw (count-own, zero-add) s.1 }))
+      ((lists ns w).to x (record { up = p; ix = 0 + s.0; is = s.2; open_up = open_at_lem ns w (suc k) o; inside = rw (count_own, zero-add) s.1 }))
       (rw s.2 (child_ext p (0 + s.0))))
     where
       p : Path
       p = to ns (suc k)
 
-      count-own : (shape ns).count p ≡ many
-      count-own = rw (find_to ns w (suc k) used_here)
+      count_own : (shape ns).count p ≡ many
+      count_own = rw (find_to ns w (suc k) used_here)
 
       of : (x : Path) (i : ℕ) → Under (p · i) x → Showing (shape ns) x → In x (child_paths p 0 many)
-      of x i (inl e) s = child_paths_has p 0 many i (rw count-own at (branch_inside (shape ns) (rooted ns w) p x i (inl e) s)) (rw zero-add e)
+      of x i (inl e) s = child_paths_has p 0 many i (rw count_own at (branch_inside (shape ns) (rooted ns w) p x i (inl e) s)) (rw zero-add e)
       of x i (inr h) s = absurd (differ (above_open (shape ns) (rooted ns w) (p · i) x h s) (shut_child ns w (suc k) i used_here (none i)))
 
   -- the listing before, from the listing after

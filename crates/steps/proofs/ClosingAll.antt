@@ -162,8 +162,8 @@ module _ (ns : List Node) (w : WellFormed ns) where
     own : node_at b.nodes (suc j) ≡ node_at ns (suc j)
     own = B.away (suc j) (λ u r. not_own (to ns (suc j)) r.0 r.2) ∙ same (suc j) (open_used ns (suc j) o) (inl refl)
 
-    open-still : Opens b.nodes (suc j)
-    open-still = rw own o
+    open_still : Opens b.nodes (suc j)
+    open_still = rw own o
 
     none_open : (i : ℕ) → open_child b.nodes (suc j) i ≡ 0
     none_open i = go (open_child b.nodes (suc j) i) refl
@@ -182,7 +182,7 @@ module _ (ns : List Node) (w : WellFormed ns) where
 
     P : Pruned b.nodes t.nodes (suc j)
     unfolding close_one closed_at
-    P = close_pruned b.nodes wb j open-still none_open
+    P = close_pruned b.nodes wb j open_still none_open
 
     -- a node that is left has the path that it had
     path : (m : ℕ) → Used b.nodes m → to ns m ≡ to b.nodes m
@@ -191,21 +191,21 @@ module _ (ns : List Node) (w : WellFormed ns) where
     last_step : Closes ns s t (suc j)
     unfolding close_one closed_at
     last_step = record {
-      tale = tale_trans B.tale (tale_if b t true (rows_change (suc (row_of b.nodes (suc j))) (direct_of b.nodes (suc j)) 0) refl (λ e. close_tells b.nodes wb j open-still none_open) (λ e. absurd (true≢false e)));
+      tale = tale_trans B.tale (tale_if b t true (rows_change (suc (row_of b.nodes (suc j))) (direct_of b.nodes (suc j)) 0) refl (λ e. close_tells b.nodes wb j open_still none_open) (λ e. absurd (true≢false e)));
       size = omega (
         arith,
         B.size,
         length-append b.log (rows_change (suc (row_of b.nodes (suc j))) (direct_of b.nodes (suc j)) 0 ∷ []),
-        count_less (λ i. is_open (node_at b.nodes (suc i))) (λ i. is_open (node_at t.nodes (suc i))) 255 j (λ i x. shrunk_open b.nodes t.nodes P.less (suc i) x) (omega (arith, used_small b.nodes wb (suc j) (open_used b.nodes (suc j) open-still))) open-still P.shut,
+        count_less (λ i. is_open (node_at b.nodes (suc i))) (λ i. is_open (node_at t.nodes (suc i))) 255 j (λ i x. shrunk_open b.nodes t.nodes P.less (suc i) x) (omega (arith, used_small b.nodes wb (suc j) (open_used b.nodes (suc j) open_still))) open_still P.shut,
       );
       less = shrunk_trans s.nodes b.nodes t.nodes B.less P.less;
       away = λ m k.
-          P.away m (λ u z. k (shrunk_used ns b.nodes S₁ m u) (rw (path (suc j) (open_used b.nodes (suc j) open-still), path m u) z))
+          P.away m (λ u z. k (shrunk_used ns b.nodes S₁ m u) (rw (path (suc j) (open_used b.nodes (suc j) open_still), path m u) z))
           ∙ B.away m (λ u r. k u (inr (under_ext (to ns (suc j) · r.0) (child_ext (to ns (suc j)) r.0) r.2)));
       gone = λ m u x v.
           let y = shrunk_used b.nodes t.nodes P.less m v in
-          P.gone m y (rw (path (suc j) (open_used b.nodes (suc j) open-still), path m y) at x) v;
-      self = closed_self b.nodes wb j open-still none_open ∙ ap (λ (n : Node). cond n.ongoing (with_open false n) no_node) own;
+          P.gone m y (rw (path (suc j) (open_used b.nodes (suc j) open_still), path m y) at x) v;
+      self = closed_self b.nodes wb j open_still none_open ∙ ap (λ (n : Node). cond n.ongoing (with_open false n) no_node) own;
     }
 
   works : (f : ℕ) → Works f
@@ -221,18 +221,18 @@ module _ (ns : List Node) (w : WellFormed ns) where
     abbrev whole : State
     whole = close_each (state ns []) (closing_order ns depth (suc j))
 
-    pub close-all : Closes ns (state ns []) whole (suc j)
-    close-all = works depth j o (omega arith) (state ns []) w (shrunk_refl ns w) (λ m u v. refl)
+    pub close_all_lem : Closes ns (state ns []) whole (suc j)
+    close_all_lem = works depth j o (omega arith) (state ns []) w (shrunk_refl ns w) (λ m u v. refl)
 
-    pub close-all-pruned : Pruned ns whole.nodes (suc j)
-    close-all-pruned = let C = close-all in record { less = C.less; away = C.away; gone = C.gone; shut = self_shut (node_at ns (suc j)) (node_at whole.nodes (suc j)) C.self }
+    pub close_all_pruned : Pruned ns whole.nodes (suc j)
+    close_all_pruned = let C = close_all_lem in record { less = C.less; away = C.away; gone = C.gone; shut = self_shut (node_at ns (suc j)) (node_at whole.nodes (suc j)) C.self }
 
-    pub close-all-well : WellFormed whole.nodes
-    close-all-well = shrunk_well ns whole.nodes close-all.less w
+    pub close_all_well : WellFormed whole.nodes
+    close_all_well = shrunk_well ns whole.nodes close_all_lem.less w
 
-    pub close-all-told : Told (paths ns) whole.log (paths whole.nodes)
-    close-all-told = tale_told ns whole close-all.tale
+    pub close_all_told : Told (paths ns) whole.log (paths whole.nodes)
+    close_all_told = tale_told ns whole close_all_lem.tale
 
     -- all that was below the row is gone
-    pub close-all-rows : let r = row_of ns (suc j) in rows whole.nodes ≡ take (suc r) (rows ns) ++ drop (suc r + total_of ns (suc j)) (rows ns)
-    close-all-rows = prune_rows ns whole.nodes w j o close-all-pruned
+    pub close_all_rows : let r = row_of ns (suc j) in rows whole.nodes ≡ take (suc r) (rows ns) ++ drop (suc r + total_of ns (suc j)) (rows ns)
+    close_all_rows = prune_rows ns whole.nodes w j o close_all_pruned

@@ -15,11 +15,11 @@ use Rattle.model.specs.Rows.{row_of}
 use Rattle.model.specs.Logs.{State, state, rows_change, text_change, logged_if}
 use Rattle.model.specs.Close.{closing_order, close_each}
 use Rattle.model.specs.Update.{Step, text, grow, followed, visit, added, end_of, text_step, grow_step, step, steps, visits as all_visits}
-use Rattle.steps.proofs.ClosingAll.{close-all}
+use Rattle.steps.proofs.ClosingAll.{close_all_lem}
 use Rattle.steps.proofs.Visits.{ongoing_used}
 use Rattle.lists.proofs.Numbers.{count_le}
 use Rattle.paths.specs.Order.{Under}
-use Rattle.tree.proofs.Ascends.{Ascends, ascends-children, ascends_add, ascends_none, ascends_few}
+use Rattle.tree.proofs.Ascends.{Ascends, ascends_children, ascends_add, ascends_none, ascends_few}
 use Rattle.tree.proofs.WellFormed.{open_used, zero_open}
 use Rattle.tree.specs.Paths.{to, From}
 use Rattle.tree.specs.WellFormed.{Used, Opens, WellFormed}
@@ -27,7 +27,7 @@ use Rattle.tree.specs.WellFormed.{Used, Opens, WellFormed}
 -- there are as many records as closed nodes
 pub close_short : (ns : List Node) (w : WellFormed ns) (k : ℕ) → Opens ns (suc k) → length (close_each (state ns []) (closing_order ns depth (suc k))).log ≤ 255
 close_short ns w k o =
-    omega (arith, (close-all ns w k o).size, count_le (λ j. is_open (node_at ns (suc j))) 255)
+    omega (arith, (close_all_lem ns w k o).size, count_le (λ j. is_open (node_at ns (suc j))) 255)
 
 -- each node is visited once, by two steps that log one record at most
 
@@ -52,7 +52,7 @@ module _ (ns : List Node) where
 module _ (ns : List Node) (w : WellFormed ns) where
   ascend : (f k : ℕ) → Used ns k → Ascends ns used (Under (to ns k)) (visited ns f k)
   ascend zero k u = ascends_none ns used (Under (to ns k))
-  ascend (suc f) k u = ascends_add ns w used (λ n t. t) k u (flat_map (λ j. visited ns f j) (followed ns k)) (go (is_open (node_at ns k)) (ascends-children ns w used (λ n t. t) is_ongoing ongoing_used (λ j. visited ns f j) (ascend f) k))
+  ascend (suc f) k u = ascends_add ns w used (λ n t. t) k u (flat_map (λ j. visited ns f j) (followed ns k)) (go (is_open (node_at ns k)) (ascends_children ns w used (λ n t. t) is_ongoing ongoing_used (λ j. visited ns f j) (ascend f) k))
     where
       go : (b : Bool) → Ascends ns used (From ns k 0) (flat_map (λ j. visited ns f j) (children is_ongoing ns k)) → Ascends ns used (From ns k 0) (flat_map (λ j. visited ns f j) (cond b (children is_ongoing ns k) []))
       go true A = A

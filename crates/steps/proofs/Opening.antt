@@ -65,22 +65,22 @@ module _ (ns : List Node) (w : WellFormed ns) (k : ℕ) (n : Node) (P : Put ns (
   })
 
   module _ (r : ℕ) (h : r < row_total ns) (e : row_at ns r ≡ (n.parent, n.index)) where
-    pub open-paths : paths after ≡ take (suc r) (paths ns) ++ child_paths q 0 n.direct ++ drop (suc r) (paths ns)
-    open-paths =
+    pub open_paths : paths after ≡ take (suc r) (paths ns) ++ child_paths q 0 n.direct ++ drop (suc r) (paths ns)
+    open_paths =
         lists_unique (lists after w')
         (open_lists (shape ns) (shape after) (rooted ns w) (lists ns w) q n.direct opened r (at_row ns w r n.parent n.index h e))
 
     -- the rows: the node's children come right after its own row
-    pub open-rows : rows after ≡ take (suc r) (rows ns) ++ stretch (suc k) 0 n.direct ++ drop (suc r) (rows ns)
-    open-rows = rw (← put_to ns w k n P, put_find ns w (suc k) n P) at (rows_in ns after w w' (put_keeps ns w (suc k) n P) (suc r) q 0 n.direct open-paths)
+    pub open_rows : rows after ≡ take (suc r) (rows ns) ++ stretch (suc k) 0 n.direct ++ drop (suc r) (rows ns)
+    open_rows = rw (← put_to ns w k n P, put_find ns w (suc k) n P) at (rows_in ns after w w' (put_keeps ns w (suc k) n P) (suc r) q 0 n.direct open_paths)
 
-    pub open-row-total : row_total after ≡ row_total ns + n.direct
-    open-row-total = rows_more ns after w w' (put_keeps ns w (suc k) n P) (suc r) (child_paths q 0 n.direct) open-paths ∙ ap (λ (m : ℕ). row_total ns + m) (child_paths_length q 0 n.direct)
+    pub open_row_total : row_total after ≡ row_total ns + n.direct
+    open_row_total = rows_more ns after w w' (put_keeps ns w (suc k) n P) (suc r) (child_paths q 0 n.direct) open_paths ∙ ap (λ (m : ℕ). row_total ns + m) (child_paths_length q 0 n.direct)
 
     -- the totals of the nodes from its parent up
-    pub open-total-over : (j : ℕ) → Opens ns j → Over ns j n.parent → total_of after j ≡ total_of ns j + n.direct
-    open-total-over j o v =
-        total_more ns after w w' (put_keeps ns w (suc k) n P) (suc r) (child_paths q 0 n.direct) open-paths j o (put_open ns w (suc k) n P j o).0 inside
+    pub open_total_over : (j : ℕ) → Opens ns j → Over ns j n.parent → total_of after j ≡ total_of ns j + n.direct
+    open_total_over j o v =
+        total_more ns after w w' (put_keeps ns w (suc k) n P) (suc r) (child_paths q 0 n.direct) open_paths j o (put_open ns w (suc k) n P j o).0 inside
         ∙ ap (λ (m : ℕ). total_of ns j + m) (child_paths_length q 0 n.direct)
       where
         inside : (x : Path) → In x (child_paths q 0 n.direct) → Ext (to ns j) x
@@ -88,17 +88,17 @@ module _ (ns : List Node) (w : WellFormed ns) (k : ℕ) (n : Node) (P : Put ns (
             let s = child_paths_in q 0 n.direct m in
             rw s.2 (ext_trans (under_child (to ns j) (to ns n.parent) n.index (over_under ns w j n.parent (open_used ns n.parent above) v)) (ext-child q (0 + s.0)))
 
-    pub open-total-else : (j : ℕ) → Opens ns j → (Over ns j n.parent → ⊥) → total_of after j ≡ total_of ns j
-    open-total-else j o v = total_as_before ns after w w' (put_keeps ns w (suc k) n P) (suc r) (child_paths q 0 n.direct) open-paths j o (put_open ns w (suc k) n P j o).0 outside
+    pub open_total_else : (j : ℕ) → Opens ns j → (Over ns j n.parent → ⊥) → total_of after j ≡ total_of ns j
+    open_total_else j o v = total_as_before ns after w w' (put_keeps ns w (suc k) n P) (suc r) (child_paths q 0 n.direct) open_paths j o (put_open ns w (suc k) n P j o).0 outside
       where
-        not-over : Under (to ns j) q → ⊥
-        not-over (inl d) = differ o (rw (d, find_to ns w j (open_used ns j o)) at opened.was)
-        not-over (inr x) = v (under_over ns w j n.parent (open_used ns n.parent above) (open_used ns j o) (ext_parent (to ns j) (to ns n.parent) n.index x))
+        not_over : Under (to ns j) q → ⊥
+        not_over (inl d) = differ o (rw (d, find_to ns w j (open_used ns j o)) at opened.was)
+        not_over (inr x) = v (under_over ns w j n.parent (open_used ns n.parent above) (open_used ns j o) (ext_parent (to ns j) (to ns n.parent) n.index x))
 
         outside : (x : Path) → In x (child_paths q 0 n.direct) → Ext (to ns j) x → ⊥
         outside x m g =
             let s = child_paths_in q 0 n.direct m in
-            not-over (ext_parent (to ns j) q (0 + s.0) (rw s.2 at g))
+            not_over (ext_parent (to ns j) q (0 + s.0) (rw s.2 at g))
 
   -- of the node itself
   pub open_total_new : total_of after (suc k) ≡ n.direct

@@ -23,12 +23,12 @@ use Rattle.steps.specs.Changes.{Put, Quiet}
 use Rattle.steps.specs.Settled.{Sound}
 use Rattle.steps.specs.Telling.{nil, cons, Result}
 use Rattle.steps.proofs.Put.{put_well}
-use Rattle.steps.proofs.Opening.{row_shows, open_put, open-paths, open-row-total}
+use Rattle.steps.proofs.Opening.{row_shows, open_put, open_paths, open_row_total}
 use Rattle.steps.proofs.Shrunk.{prune_row_total}
 use Rattle.steps.proofs.Quiet.{quiet_rows, quiet_paths, quiet_freed, quiet_followed}
 use Rattle.steps.proofs.Settling.{settle_paths, sound_given, settle_sound}
 use Rattle.steps.proofs.Replay.{tells_in}
-use Rattle.steps.proofs.ClosingAll.{close-all-pruned, close-all-well, close-all-told}
+use Rattle.steps.proofs.ClosingAll.{close_all_pruned, close_all_well, close_all_told}
 use Rattle.steps.proofs.Visits.{update_steps}
 use Rattle.paths.proofs.Sorted.{child_paths_length}
 use Rattle.paths.specs.Listings.{child_paths}
@@ -95,9 +95,9 @@ put_result m S r k n h e P c o l =
     let w' = put_well ns w (suc k) n P in
     let q = to ns n.parent · n.index in
     record {
-      sound = settle_sound (set ns (suc k) n) w' (rw (open-row-total ns w k n P c o r h e) l);
+      sound = settle_sound (set ns (suc k) n) w' (rw (open_row_total ns w k n P c o r h e) l);
       told = rw (settle_paths (set ns (suc k) n) w')
-          (cons (tells_in (paths ns) (paths (set ns (suc k) n)) (suc r) (child_paths q 0 n.direct) n.direct (child_paths_length q 0 n.direct) (rw (length_paths ns w) h) (open-paths ns w k n P c o r h e)) nil);
+          (cons (tells_in (paths ns) (paths (set ns (suc k) n)) (suc r) (child_paths q 0 n.direct) n.direct (child_paths_length q 0 n.direct) (rw (length_paths ns w) h) (open_paths ns w k n P c o r h e)) nil);
     }
 
 pub open_result :
@@ -125,10 +125,10 @@ close_result m S p i k e =
     let w = S.well in
     let o = (open_child_lem ns w p i k e).0 in
     let ms = (close_each (state ns []) (closing_order ns depth (suc k))).nodes in
-    let w' = close-all-well ns w k o in
+    let w' = close_all_well ns w k o in
     record {
-      sound = settle_sound ms w' (omega (arith, prune_row_total ns ms w k o (close-all-pruned ns w k o), S.limit));
-      told = rw (settle_paths ms w') (close-all-told ns w k o);
+      sound = settle_sound ms w' (omega (arith, prune_row_total ns ms w k o (close_all_pruned ns w k o), S.limit));
+      told = rw (settle_paths ms w') (close_all_told ns w k o);
     }
 
 pub update_result :

@@ -86,28 +86,28 @@ module _ (m : Model) (S : Sound m) where
   found_row r i h = find_row m (rows m.nodes) laid_rows few neat r i (0, 0) h
 
   module _ (q : Model) (ns : List Node) (e : q ≡ with_nodes m ns) where
-    is-laid : q ≡ laid q (runs 0 (rows m.nodes))
-    is-laid = rw e (with_laid ns)
+    is_laid : q ≡ laid q (runs 0 (rows m.nodes))
+    is_laid = rw e (with_laid ns)
 
-    pub with-regions : live q ≡ runs 0 (rows m.nodes)
-    with-regions = rows_live q (rows m.nodes) is-laid few neat
+    pub with_regions_lem : live q ≡ runs 0 (rows m.nodes)
+    with_regions_lem = rows_live q (rows m.nodes) is_laid few neat
 
-    pub regions-laid : Laid q
-    regions-laid = rows_laid q (rows m.nodes) is-laid few neat
+    pub regions_laid : Laid q
+    regions_laid = rows_laid q (rows m.nodes) is_laid few neat
 
-    pub regions-tiled : Tiled 0 (live q)
-    regions-tiled = (rows_normal q (rows m.nodes) is-laid few neat).tiled
+    pub regions_tiled : Tiled 0 (live q)
+    regions_tiled = (rows_normal q (rows m.nodes) is_laid few neat).tiled
 
-    pub regions-total : total (live q) ≡ row_total m.nodes
-    regions-total = rows_total q (rows m.nodes) is-laid few neat
+    pub regions_total : total (live q) ≡ row_total m.nodes
+    regions_total = rows_total q (rows m.nodes) is_laid few neat
 
     -- a region's children are children of its node
-    pub region-children : (i : ℕ) → i < length (live q) → (at (live q) i).offset + (at (live q) i).length ≤ direct_of m.nodes (at (live q) i).node
-    region-children i h =
+    pub region_children : (i : ℕ) → i < length (live q) → (at (live q) i).offset + (at (live q) i).length ≤ direct_of m.nodes (at (live q) i).node
+    region_children i h =
         let g = at (live q) i in
-        let some : 0 < g.length = tiled_length 0 (live q) regions-tiled i h in
+        let some : 0 < g.length = tiled_length 0 (live q) regions_tiled i h in
         let z = g.start + g.length - 1 in
-        let last = region_last q (rows m.nodes) is-laid few neat i (0, 0) h in
-        let there = hit_at (live q) regions-tiled z i (record { below = h; low = omega arith; high = omega arith }) in
+        let last = region_last q (rows m.nodes) is_laid few neat i (0, 0) h in
+        let there = hit_at (live q) regions_tiled z i (record { below = h; low = omega arith; high = omega arith }) in
         let shows = rw last at (row_shows m.nodes S.well z (found_inside z i (ap (λ (x : Model). region_at (live x) z) (sym e) ∙ there))) in
         omega (arith, shows.1)

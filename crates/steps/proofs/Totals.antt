@@ -13,7 +13,7 @@ use Rattle.model.specs.Rows.{row_total, row_at, total_of}
 use Rattle.steps.specs.Changes.{Put, closed_at, Quiet}
 use Rattle.steps.specs.Settled.{Totalled, Raised}
 use Rattle.steps.proofs.Put.{put_same, put_other, put_open, put_well}
-use Rattle.steps.proofs.Opening.{open-total-over, open-total-else, open_total_new, open_total_shut}
+use Rattle.steps.proofs.Opening.{open_total_over, open_total_else, open_total_new, open_total_shut}
 use Rattle.steps.proofs.Growing.{grow_total_over, grow_total_else, grow_total_shut}
 use Rattle.steps.proofs.Shrunk.{none_used}
 use Rattle.steps.proofs.Closing.{closed_self, closed_child, closed_other, closed_shut, no_open_child, close_well, close_total_own, close_total_over, close_total_else}
@@ -47,25 +47,25 @@ module _ (ns : List Node) (w : WellFormed ns) (k : ℕ) (n : Node) (P : Put ns (
     none = λ j u. R.else j (λ v. differ (open_used opened j (put_open ns w (suc k) n P j (over_open ns w j n.parent P.seat.above v)).0) u) ∙ unused_total opened (put_well ns w (suc k) n P) j u;
   }
     where
-      shut-off : (i : ℕ) → is_open (node_at ns i) ≡ false → Over ns i n.parent → ⊥
-      shut-off i c v = differ (over_open ns w i n.parent P.seat.above v) c
+      shut_off : (i : ℕ) → is_open (node_at ns i) ≡ false → Over ns i n.parent → ⊥
+      shut_off i c v = differ (over_open ns w i n.parent P.seat.above v) c
 
       before : (j : ℕ) → j ≢ suc k → Used ns j → (node_at opened j).total ≡ total_of ns j
       before j f v = ap (λ (m : Node). m.total) (put_other ns w (suc k) n P j f) ∙ T.total j v
 
       opens : (j : ℕ) → j ≢ suc k → Opens ns j → Dec (Over ns j n.parent) → (node_at news j).total ≡ total_of opened j
-      opens j f o (yes v) = R.over j v ∙ ap (λ (m : ℕ). m + n.direct) (before j f (open_used ns j o)) ∙ sym (open-total-over ns w k n P was now r h e j o v)
-      opens j f o (no v) = R.else j v ∙ before j f (open_used ns j o) ∙ sym (open-total-else ns w k n P was now r h e j o v)
+      opens j f o (yes v) = R.over j v ∙ ap (λ (m : ℕ). m + n.direct) (before j f (open_used ns j o)) ∙ sym (open_total_over ns w k n P was now r h e j o v)
+      opens j f o (no v) = R.else j v ∙ before j f (open_used ns j o) ∙ sym (open_total_else ns w k n P was now r h e j o v)
 
       old : (j : ℕ) → j ≢ suc k → Used ns j → (is_open (node_at ns j) ≡ true) ⊎ (is_open (node_at ns j) ≡ false) → (node_at news j).total ≡ total_of opened j
       old j f v (inl o) = opens j f o (dec_over ns w j n.parent (open_used ns n.parent P.seat.above) v)
-      old j f v (inr c) = R.else j (shut-off j c) ∙ before j f v ∙ sym (open_total_shut ns w k n P was now j f c)
+      old j f v (inr c) = R.else j (shut_off j c) ∙ before j f v ∙ sym (open_total_shut ns w k n P was now j f c)
 
       total : (j : ℕ) → Used opened j → (node_at news j).total ≡ total_of opened j
       total j u = go (ℕ_discrete j (suc k))
         where
           go : Dec (j ≡ suc k) → (node_at news j).total ≡ total_of opened j
-          go (yes f) = rw f (R.else (suc k) (shut-off (suc k) was) ∙ ap (λ (m : Node). m.total) (put_same ns w (suc k) n P) ∙ d ∙ sym (open_total_new ns w k n P was now))
+          go (yes f) = rw f (R.else (suc k) (shut_off (suc k) was) ∙ ap (λ (m : Node). m.total) (put_same ns w (suc k) n P) ∙ d ∙ sym (open_total_new ns w k n P was now))
           go (no f) = old j f (rw (put_other ns w (suc k) n P j f) at u) (bool (is_open (node_at ns j)))
 
 -- an open node grows by c: the nodes from it up have c more
@@ -75,13 +75,13 @@ module _ (ns : List Node) (w : WellFormed ns) (k : ℕ) (n : Node) (P : Put ns k
 
   pub grow_totalled : (news : List Node) → Totalled ns ns → n.total ≡ (node_at ns k).total → Raised ns k c grown news → Totalled grown news
   grow_totalled news T s R = record {
-    total = λ j u. total j (used-before j u (ℕ_discrete j k)) (bool (is_open (node_at ns j)));
+    total = λ j u. total j (used_before j u (ℕ_discrete j k)) (bool (is_open (node_at ns j)));
     none = λ j u. R.else j (λ v. differ (open_used grown j (put_open ns w k n P j (over_open ns w j k o v)).0) u) ∙ unused_total grown (put_well ns w k n P) j u;
   }
     where
-      used-before : (j : ℕ) → Used grown j → Dec (j ≡ k) → Used ns j
-      used-before j u (yes f) = rw f (open_used ns k o)
-      used-before j u (no f) = rw (put_other ns w k n P j f) at u
+      used_before : (j : ℕ) → Used grown j → Dec (j ≡ k) → Used ns j
+      used_before j u (yes f) = rw f (open_used ns k o)
+      used_before j u (no f) = rw (put_other ns w k n P j f) at u
 
       same : (j : ℕ) → Dec (j ≡ k) → (node_at grown j).total ≡ (node_at ns j).total
       same j (yes f) = rw f (ap (λ (m : Node). m.total) (put_same ns w k n P) ∙ s)

@@ -327,55 +327,55 @@ module _ (t : List ℕ) (ns : List Node) (w : WellFormed ns) where
       W : Walked (From ns k 0) (Below b) texted walked
       W = below b nb
 
-      own-still : node_at walked.nodes k ≡ node_at texted.nodes k
-      own-still = W.away k (λ v r. not_own (to ns k) r.0 r.2)
+      own_still : node_at walked.nodes k ≡ node_at texted.nodes k
+      own_still = W.away k (λ v r. not_own (to ns k) r.0 r.2)
 
       same_direct : direct_of walked.nodes k ≡ direct_of ns k
-      same_direct = ap (λ (n : Node). n.direct) own-still ∙ T.1.1 ∙ ap (λ (n : Node). n.direct) own
+      same_direct = ap (λ (n : Node). n.direct) own_still ∙ T.1.1 ∙ ap (λ (n : Node). n.direct) own
 
-      same-entry : (node_at walked.nodes k).entry ≡ (node_at ns k).entry
-      same-entry = ap (λ (n : Node). n.entry) own-still ∙ T.1.2 ∙ ap (λ (n : Node). n.entry) own
+      same_entry : (node_at walked.nodes k).entry ≡ (node_at ns k).entry
+      same_entry = ap (λ (n : Node). n.entry) own_still ∙ T.1.2 ∙ ap (λ (n : Node). n.entry) own
 
       same_open : is_open (node_at walked.nodes k) ≡ is_open (node_at ns k)
-      same_open = ap is_open own-still ∙ T.1.3 ∙ ap is_open own
+      same_open = ap is_open own_still ∙ T.1.3 ∙ ap is_open own
 
       same_rows : added_rows t (node_at walked.nodes k) ≡ added_rows t (node_at ns k)
       unfolding added_rows
-      same_rows = rw (same_open, same_direct, same-entry)
+      same_rows = rw (same_open, same_direct, same_entry)
 
       -- what is asked of node k is so at its two steps
-      at-text : Ready t s.nodes k
-      at-text = record { well = ws; live = rw own u; listed = rw own (not_past t ns k nk); more = subst (λ (n : Node). n.direct ≤ item_count t n.entry) (sym own) (not_back t ns k nk) }
+      at_text : Ready t s.nodes k
+      at_text = record { well = ws; live = rw own u; listed = rw own (not_past t ns k nk); more = subst (λ (n : Node). n.direct ≤ item_count t n.entry) (sym own) (not_back t ns k nk) }
 
-      at-growth : Ready t walked.nodes k
-      at-growth = record {
+      at_growth : Ready t walked.nodes k
+      at_growth = record {
         well = W.well;
-        live = ap used own-still ∙ T.1.0 ∙ ap used own ∙ u;
-        listed = rw same-entry (not_past t ns k nk);
-        more = rw (same_direct, same-entry) (not_back t ns k nk);
+        live = ap used own_still ∙ T.1.0 ∙ ap used own ∙ u;
+        listed = rw same_entry (not_past t ns k nk);
+        more = rw (same_direct, same_entry) (not_back t ns k nk);
       }
 
       G : Stepped walked (grow_step t walked k) k
-      G = grow_stepped t walked W.well k at-growth.live at-growth.more
+      G = grow_stepped t walked W.well k at_growth.live at_growth.more
 
-      visit-rows : row_total (grow_step t walked k).nodes ≡ row_total s.nodes + growth t ns (text k ∷ (Below b ++ (grow k ∷ [])))
+      visit_rows : row_total (grow_step t walked k).nodes ≡ row_total s.nodes + growth t ns (text k ∷ (Below b ++ (grow k ∷ [])))
       unfolding growth
-      visit-rows = omega (
+      visit_rows = omega (
         arith,
         text_row_total t s ws k (rw own u),
         W.rows,
-        grown_row_total t walked W.well k at-growth.live at-growth.more,
+        grown_row_total t walked W.well k at_growth.live at_growth.more,
         same_rows,
         growth_append t ns (Below b) (grow k ∷ []),
       )
 
-      visit-one : Walked (Under (to ns k)) (text k ∷ (Below b ++ (grow k ∷ []))) s (grow_step t walked k)
+      visit_one : Walked (Under (to ns k)) (text k ∷ (Below b ++ (grow k ∷ []))) s (grow_step t walked k)
       unfolding step
-      visit-one = record {
+      visit_one = record {
         well = G.well;
         tale = tale_trans T.0.tale (tale_trans W.tale G.tale);
-        course = goes at-text (course_append t texted (Below b) (grow k ∷ []) W.course (goes at-growth ends));
-        rows = visit-rows;
+        course = goes at_text (course_append t texted (Below b) (grow k ∷ []) W.course (goes at_growth ends));
+        rows = visit_rows;
         away = λ m z.
             let n : m ≢ k = λ e. z (rw e u) (inl (ap (to ns) e)) in
             G.other m n
@@ -391,7 +391,7 @@ module _ (t : List ℕ) (ns : List Node) (w : WellFormed ns) where
       let q = neither (went_back t ns k) (any_went_back t ns (M ++ (grow k ∷ []))) nb in
       let r = back_append t ns M (grow k ∷ []) q.1 in
       rw (steps_append t (text_step t s k) M (grow k ∷ []))
-      (visit-one f k u d (visits f) s ws same (is_open (node_at ns k)) r.0 q.0)
+      (visit_one f k u d (visits f) s ws same (is_open (node_at ns k)) r.0 q.0)
 
 -- the whole update
 module _ (t : List ℕ) (ns : List Node) (w : WellFormed ns) (nb : any_went_back t ns (all_visits ns) ≡ false) where

@@ -72,51 +72,51 @@ module _ (ns : List Node) (w : WellFormed ns) where
       abbrev once : List Node
       once = set xs top (total_moved more rows (node_at xs top))
 
-      parent-used : Used ns top
-      parent-used = above_used ns w k u
+      parent_used : Used ns top
+      parent_used = above_used ns w k u
 
-      here-moved : node_at once top ≡ total_moved more rows (node_at xs top)
-      here-moved = get_or-set_same xs top (total_moved more rows (node_at xs top)) no_node (rw l (used_small ns w top parent-used))
+      here_moved : node_at once top ≡ total_moved more rows (node_at xs top)
+      here_moved = get_or-set_same xs top (total_moved more rows (node_at xs top)) no_node (rw l (used_small ns w top parent_used))
 
       same_up : (j : ℕ) → Dec (j ≡ top) → (node_at once j).parent ≡ up ns j
-      same_up j (yes z) = ap (λ (i : ℕ). (node_at once i).parent) z ∙ ap (λ (n : Node). n.parent) here-moved ∙ e top ∙ sym (ap (up ns) z)
+      same_up j (yes z) = ap (λ (i : ℕ). (node_at once i).parent) z ∙ ap (λ (n : Node). n.parent) here_moved ∙ e top ∙ sym (ap (up ns) z)
       same_up j (no n) = ap (λ (x : Node). x.parent) (get_or-set_other xs top j (total_moved more rows (node_at xs top)) no_node n) ∙ e j
 
-      changed-step : (zs : List Node) → Changed once top zs → Changed xs (suc k) zs
-      changed-step zs C = record {
+      changed_step : (zs : List Node) → Changed once top zs → Changed xs (suc k) zs
+      changed_step zs C = record {
         moved_at = λ j a. by_over j a;
         kept_at = λ j n. C.kept_at j (λ a. n (above_up k j a)) ∙ get_or-set_other xs top j (total_moved more rows (node_at xs top)) no_node (λ z. n (here (sym z)));
         long = C.long ∙ length-set xs top (total_moved more rows (node_at xs top));
       }
         where
           further : (j : ℕ) → Above ns j top → node_at zs j ≡ total_moved more rows (node_at xs j)
-          further j a = C.moved_at j a ∙ ap (total_moved more rows) (get_or-set_other xs top j (total_moved more rows (node_at xs top)) no_node (λ z. not_above top parent-used (rw z at a)))
+          further j a = C.moved_at j a ∙ ap (total_moved more rows) (get_or-set_other xs top j (total_moved more rows (node_at xs top)) no_node (λ z. not_above top parent_used (rw z at a)))
 
           by_over : (j : ℕ) → Over ns j top → node_at zs j ≡ total_moved more rows (node_at xs j)
           by_over j a = go top refl a
             where
               go : (q : ℕ) → top ≡ q → Over ns j q → node_at zs j ≡ total_moved more rows (node_at xs j)
-              go q d (here z) = let i : top ≡ j = d ∙ z in rw i at (C.kept_at top (not_above top parent-used) ∙ here-moved)
+              go q d (here z) = let i : top ≡ j = d ∙ z in rw i at (C.kept_at top (not_above top parent_used) ∙ here_moved)
               go (suc q) d (step b) = further j (rw d b)
 
-    changed-from : (f k : ℕ) (xs : List Node) → reaches ns f k ≡ true → Used ns k → ((j : ℕ) → (node_at xs j).parent ≡ up ns j) → length xs ≡ 256 → Changed xs k (moved_above more rows f xs k)
+    changed_from : (f k : ℕ) (xs : List Node) → reaches ns f k ≡ true → Used ns k → ((j : ℕ) → (node_at xs j).parent ≡ up ns j) → length xs ≡ 256 → Changed xs k (moved_above more rows f xs k)
     unfolding moved_above
-    changed-from zero zero xs r u e l = record { moved_at = λ j a. absurd a; kept_at = λ j n. refl; long = refl }
-    changed-from (suc f) zero xs r u e l = record { moved_at = λ j a. absurd a; kept_at = λ j n. refl; long = refl }
-    changed-from zero (suc k) xs r u e l = absurd (reach_never ns k r)
-    changed-from (suc f) (suc k) xs r u e l =
+    changed_from zero zero xs r u e l = record { moved_at = λ j a. absurd a; kept_at = λ j n. refl; long = refl }
+    changed_from (suc f) zero xs r u e l = record { moved_at = λ j a. absurd a; kept_at = λ j n. refl; long = refl }
+    changed_from zero (suc k) xs r u e l = absurd (reach_never ns k r)
+    changed_from (suc f) (suc k) xs r u e l =
         rw (e (suc k))
-        (changed-step k xs u e l (moved_above more rows f (once k xs u e l) (up ns (suc k)))
-        (changed-from f (up ns (suc k)) (once k xs u e l) (reach_up ns f k r) (above_used ns w k u) (λ j. same_up k xs u e l j (ℕ_discrete j (up ns (suc k)))) (length-set xs (up ns (suc k)) (total_moved more rows (node_at xs (up ns (suc k)))) ∙ l)))
+        (changed_step k xs u e l (moved_above more rows f (once k xs u e l) (up ns (suc k)))
+        (changed_from f (up ns (suc k)) (once k xs u e l) (reach_up ns f k r) (above_used ns w k u) (λ j. same_up k xs u e l j (ℕ_discrete j (up ns (suc k)))) (length-set xs (up ns (suc k)) (total_moved more rows (node_at xs (up ns (suc k)))) ∙ l)))
 
   pub moved_above_lem : (more : Bool) (rows k : ℕ) → Used ns k → (j : ℕ) → Above ns j k → node_at (moved_above more rows depth ns k) j ≡ total_moved more rows (node_at ns j)
-  moved_above_lem more rows k u j a = (changed-from more rows depth k ns (reach_deep ns w k u) u (λ i. refl) w.size).moved_at j a
+  moved_above_lem more rows k u j a = (changed_from more rows depth k ns (reach_deep ns w k u) u (λ i. refl) w.size).moved_at j a
 
   pub kept_else : (more : Bool) (rows k : ℕ) → Used ns k → (j : ℕ) → (Above ns j k → ⊥) → node_at (moved_above more rows depth ns k) j ≡ node_at ns j
-  kept_else more rows k u j n = (changed-from more rows depth k ns (reach_deep ns w k u) u (λ i. refl) w.size).kept_at j n
+  kept_else more rows k u j n = (changed_from more rows depth k ns (reach_deep ns w k u) u (λ i. refl) w.size).kept_at j n
 
   pub moved_long : (more : Bool) (rows k : ℕ) → Used ns k → length (moved_above more rows depth ns k) ≡ length ns
-  moved_long more rows k u = (changed-from more rows depth k ns (reach_deep ns w k u) u (λ i. refl) w.size).long
+  moved_long more rows k u = (changed_from more rows depth k ns (reach_deep ns w k u) u (λ i. refl) w.size).long
 
 pub record Climbing (more : Bool) (rows : ℕ) (m : Model) (node : ℕ) (q : Model) (k : ℕ) : Type 0 where
   pub fuel : ℕ
@@ -155,37 +155,37 @@ module _ (more : Bool) (rows : ℕ) (m : Model) (w : WellFormed m.nodes) (node :
     abbrev p : ℕ
     p = up m.nodes (suc k)
 
-    climb-up : (node_at q.nodes (suc k)).parent ≡ p
-    climb-up = C.parents (suc k)
+    climb_up : (node_at q.nodes (suc k)).parent ≡ p
+    climb_up = C.parents (suc k)
 
     v : Used m.nodes p
     v = above_used m.nodes w k C.used
 
-    climb-small : p < 256
-    climb-small = used_small m.nodes w p v
+    climb_small : p < 256
+    climb_small = used_small m.nodes w p v
 
-    climb-movable : AllMovable more rows m.nodes node → Movable more rows (node_at q.nodes p).total
-    climb-movable h = rw (C.rest p (here refl)) (h p (C.over p (here refl)))
+    climb_movable : AllMovable more rows m.nodes node → Movable more rows (node_at q.nodes p).total
+    climb_movable h = rw (C.rest p (here refl)) (h p (C.over p (here refl)))
 
-    climb-less : length (to m.nodes p) < length (to m.nodes (suc k))
-    climb-less = omega (arith, ap length (to_up m.nodes w k C.used), length_child (to m.nodes p) (ix m.nodes (suc k)))
+    climb_less : length (to m.nodes p) < length (to m.nodes (suc k))
+    climb_less = omega (arith, ap length (to_up m.nodes w k C.used), length_child (to m.nodes p) (ix m.nodes (suc k)))
 
-    climb-step : Climbing more rows m node (with_nodes q (set q.nodes p (total_moved more rows (node_at q.nodes p)))) p
+    climb_step : Climbing more rows m node (with_nodes q (set q.nodes p (total_moved more rows (node_at q.nodes p)))) p
     unfolding moved_above
-    climb-step = by C.fuel refl
+    climb_step = by C.fuel refl
       where
         new : List Node
         new = set q.nodes p (total_moved more rows (node_at q.nodes p))
 
         size : p < length q.nodes
-        size = omega (arith, C.long, w.size, climb-small)
+        size = omega (arith, C.long, w.size, climb_small)
 
         parent_at : (j : ℕ) → Dec (j ≡ p) → (node_at new j).parent ≡ (node_at m.nodes j).parent
         parent_at j (yes e) = rw (e, get_or-set_same q.nodes p (total_moved more rows (node_at q.nodes p)) no_node size) (C.parents p)
         parent_at j (no n) = rw (get_or-set_other q.nodes p j (total_moved more rows (node_at q.nodes p)) no_node n) (C.parents j)
 
         again : (f : ℕ) → moved_above more rows (suc f) q.nodes (suc k) ≡ moved_above more rows depth m.nodes node → moved_above more rows f new p ≡ moved_above more rows depth m.nodes node
-        again f g = rw climb-up at g
+        again f g = rw climb_up at g
 
         by : (f : ℕ) → C.fuel ≡ f → Climbing more rows m node (with_nodes q new) p
         by zero e = absurd (reach_never m.nodes k (rw e at C.reach))
@@ -213,15 +213,15 @@ module _ (more : Bool) (rows : ℕ) (m : Model) (w : WellFormed m.nodes) (node :
 
   pub above_small : (k : ℕ) → 0 < k → Climbing more rows m node q k → above k < 256
   above_small zero h C = absurd (omega arith)
-  above_small (suc k) h C = rw (climb-up more rows m w node q k C) (climb-small more rows m w node q k C)
+  above_small (suc k) h C = rw (climb_up more rows m w node q k C) (climb_small more rows m w node q k C)
 
   pub above_movable : (k : ℕ) → 0 < k → Climbing more rows m node q k → AllMovable more rows m.nodes node → Movable more rows (node_at q.nodes (above k)).total
   above_movable zero h C f = absurd (omega arith)
-  above_movable (suc k) h C f = rw (climb-up more rows m w node q k C) (climb-movable more rows m w node q k C f)
+  above_movable (suc k) h C f = rw (climb_up more rows m w node q k C) (climb_movable more rows m w node q k C f)
 
   pub above_less : (k : ℕ) → 0 < k → Climbing more rows m node q k → length (to m.nodes (above k)) < length (to m.nodes k)
   above_less zero h C = absurd (omega arith)
-  above_less (suc k) h C = rw (climb-up more rows m w node q k C) (climb-less more rows m w node q k C)
+  above_less (suc k) h C = rw (climb_up more rows m w node q k C) (climb_less more rows m w node q k C)
 
   pub above_step :
       (k t : ℕ)
@@ -230,7 +230,7 @@ module _ (more : Bool) (rows : ℕ) (m : Model) (w : WellFormed m.nodes) (node :
       → t ≡ moved more rows (node_at q.nodes (above k)).total
       → Climbing more rows m node (with_nodes q (set q.nodes (above k) (with_total t (node_at q.nodes (above k))))) (above k)
   above_step zero t h C e = absurd (omega arith)
-  above_step (suc k) t h C e = rw (e, climb-up more rows m w node q k C) (climb-step more rows m w node q k C)
+  above_step (suc k) t h C e = rw (e, climb_up more rows m w node q k C) (climb_step more rows m w node q k C)
 
   pub above_end : (k : ℕ) → k ≤ 0 → Climbing more rows m node q k → q ≡ with_nodes m (moved_above more rows depth m.nodes node)
   above_end zero h C = climb_end more rows m w node q C

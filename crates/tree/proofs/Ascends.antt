@@ -45,10 +45,10 @@ ascends_none ns q R = record { sorted = nil; each = λ m z. absurd (not-nil z) }
 module _ (ns : List Node) (w : WellFormed ns) (q : Node → Bool) (live : (n : Node) → q n ≡ true → used n ≡ true) where
   -- the nodes below the children of p that pass a test, from the i-th on
   module _ (c : Node → Bool) (pass : (n : Node) → c n ≡ true → q n ≡ true) (g : ℕ → List ℕ) (h : (k : ℕ) → q (node_at ns k) ≡ true → Ascends ns q (Under (to ns k)) (g k)) (p : ℕ) where
-    ascends-from : (n i : ℕ) → Ascends ns q (From ns p i) (flat_map g (children_from c ns p i n))
+    ascends_from : (n i : ℕ) → Ascends ns q (From ns p i) (flat_map g (children_from c ns p i n))
     unfolding children_from keep flat_map
-    ascends-from zero i = ascends_none ns q (From ns p i)
-    ascends-from (suc n) i = go (child_by c ns p i) refl (ascends-from n (suc i))
+    ascends_from zero i = ascends_none ns q (From ns p i)
+    ascends_from (suc n) i = go (child_by c ns p i) refl (ascends_from n (suc i))
       where
         later : (x : Path) → From ns p (suc i) x → From ns p i x
         later x r = (r.0, (omega arith), r.2)
@@ -84,9 +84,9 @@ module _ (ns : List Node) (w : WellFormed ns) (q : Node → Bool) (live : (n : N
             side m (inl k) = let s = A.each m k in (s.0, (i, (omega arith), rw a at s.1))
             side m (inr k) = let s = B.each m k in (s.0, later (to ns m) s.1)
 
-    pub ascends-children : Ascends ns q (From ns p 0) (flat_map g (children c ns p))
+    pub ascends_children : Ascends ns q (From ns p 0) (flat_map g (children c ns p))
     unfolding children
-    ascends-children = ascends-from (direct_of ns p) 0
+    ascends_children = ascends_from (direct_of ns p) 0
 
   -- and the node above them
   pub ascends_add : (k : ℕ) → q (node_at ns k) ≡ true → (ks : List ℕ) → Ascends ns q (From ns k 0) ks → Ascends ns q (Under (to ns k)) (k ∷ ks)

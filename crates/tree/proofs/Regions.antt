@@ -17,7 +17,7 @@ use Rattle.runs.proofs.Count.{changes, pieces, length_runs, changes_le, pieces_l
 use Rattle.tree.specs.WellFormed.{Opens, WellFormed}
 use Rattle.tree.specs.Paths.{to, From, open_nodes}
 use Rattle.tree.proofs.WellFormed.{zero_open}
-use Rattle.tree.proofs.Ascends.{Ascends, ascends_none, ascends-children, ascends_add, ascends_count}
+use Rattle.tree.proofs.Ascends.{Ascends, ascends_none, ascends_children, ascends_add, ascends_count}
 
 module _ (ns : List Node) where
   -- node k and the open nodes below it
@@ -59,7 +59,7 @@ module _ (ns : List Node) (w : WellFormed ns) where
   ascends zero k o = ascends_add ns w is_open (λ n t. rw t) k o [] (ascends_none ns is_open (From ns k 0))
   ascends (suc f) k o =
       ascends_add ns w is_open (λ n t. rw t) k o (flat_map (λ j. opens_below ns f j) (children is_open ns k))
-      (ascends-children ns w is_open (λ n t. rw t) is_open (λ n t. t) (λ j. opens_below ns f j) (ascends f) k)
+      (ascends_children ns w is_open (λ n t. rw t) is_open (λ n t. t) (λ j. opens_below ns f j) (ascends f) k)
 
   pub regions_few : length (runs 0 (rows ns)) ≤ open_nodes ns + open_nodes ns + 1
   unfolding rows

@@ -203,14 +203,14 @@ module _ (ns : List Node) (w : WellFormed ns) where
   rows_of_parent : (k : ℕ) → number (λ (r : Row). ℕ_discrete r.0 k) (rows ns) ≡ open_direct ns k
   rows_of_parent k = go (bool (is_open (node_at ns k)))
     where
-      front-row : (r : Row) → front (path ns r) ≡ to ns r.0
-      front-row r = ap front (path_is ns r.0 r.1) ∙ front_child (to ns r.0) r.1
+      front_row : (r : Row) → front (path ns r) ≡ to ns r.0
+      front_row r = ap front (path_is ns r.0 r.1) ∙ front_child (to ns r.0) r.1
 
       go : (is_open (node_at ns k) ≡ true) ⊎ (is_open (node_at ns k) ≡ false) → number (λ (r : Row). ℕ_discrete r.0 k) (rows ns) ≡ open_direct ns k
       go (inl o) =
           number_agree (λ (r : Row). ℕ_discrete r.0 k) (λ (r : Row). dec_eq (front (path ns r)) (to ns k)) (rows ns)
-          (λ r m e. front-row r ∙ ap (to ns) e)
-          (λ r m e. to_inj ns w r.0 k (open_used ns r.0 (shows_row ns w r m).0) (open_used ns k o) (sym (front-row r) ∙ e))
+          (λ r m e. front_row r ∙ ap (to ns) e)
+          (λ r m e. to_inj ns w r.0 k (open_used ns r.0 (shows_row ns w r m).0) (open_used ns k o) (sym (front_row r) ∙ e))
           ∙ sym (number_map (λ x. dec_eq (front x) (to ns k)) (path ns) (rows ns))
           ∙ ap length (children_rows k o)
           ∙ child_paths_length (to ns k) 0 (direct_of ns k)

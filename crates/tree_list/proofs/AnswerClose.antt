@@ -157,32 +157,32 @@ module _ (m : Model) (s : sound m ≡ true) (node : ℕ) (above : 0 < node) (ope
       ready : Ready m.nodes (take i ks) k
       ready = rw (step_at r ks h i l) (inner_first m.nodes (sound_of m s).well node above opens i (omega (arith, h.count)))
 
-      pub turn-closable : Closable q.nodes k
-      turn-closable = ready_closable m.nodes q.nodes (take i ks) (alike m.nodes ks i q log C) k ready
+      pub turn_closable : Closable q.nodes k
+      turn_closable = ready_closable m.nodes q.nodes (take i ks) (alike m.nodes ks i q log C) k ready
 
       pub turn_small : k < 256
       turn_small = closing_small m.nodes (sound_of m s).well node above opens r h i l
 
-      pub turn-asks : (x : RowNumber) → x ≡ record { 0 = row_of q.nodes k } → (log.len < 512) × (suc x.0 < 2 ^ 64)
-      turn-asks x e = (
+      pub turn_asks : (x : RowNumber) → x ≡ record { 0 = row_of q.nodes k } → (log.len < 512) × (suc x.0 < 2 ^ 64)
+      turn_asks x e = (
         omega (arith, log_len m.nodes ks i q log C, closing_len m.nodes (sound_of m s).well node above opens r h),
-        omega (arith, ap (λ (y : RowNumber). y.0) e, next_row_fits q C.whole k turn-closable),
+        omega (arith, ap (λ (y : RowNumber). y.0) e, next_row_fits q C.whole k turn_closable),
       )
 
-      pub turn-closed :
+      pub turn_closed :
           (x : RowNumber) (q' : Model) (log' : Log)
           → x ≡ record { 0 = row_of q.nodes k }
           → q' ≡ settle (closed_at q.nodes k)
           → log' ≡ logged log (rows_change (suc x.0) (direct_of m.nodes k) 0)
           → Closed m.nodes ks (i + 1) q' log'
-      turn-closed x q' log' d e f =
+      turn_closed x q' log' d e f =
           let z = step_at r ks h i l in
           let g = f ∙ (λ t. logged log (rows_change (suc (d t).0) (ready_direct m.nodes q.nodes (take i ks) (alike m.nodes ks i q log C) k ready t) 0)) in
           rw (add-one i)
-          (closed_again m.nodes ks i q log C (omega (arith, h.count)) (omega (arith, closing_len m.nodes (sound_of m s).well node above opens r h)) (rw z at turn-closable) q' log' (rw z at e) (rw z at g))
+          (closed_again m.nodes ks i q log C (omega (arith, h.count)) (omega (arith, closing_len m.nodes (sound_of m s).well node above opens r h)) (rw z at turn_closable) q' log' (rw z at e) (rw z at g))
 
-    pub turns-done : r.len ≤ i → ◌≡◌ {A = ChangeAnswer} (record { refusal = 0; model = q; log = log }) (close_node m node)
-    turns-done l =
+    pub turns_done : r.len ≤ i → ◌≡◌ {A = ChangeAnswer} (record { refusal = 0; model = q; log = log }) (close_node m node)
+    turns_done l =
         let all = take_all i ks (omega (arith, h.count)) in
         (λ t. record { refusal = 0; model = C.model t; log = C.log t })
         ∙ ap (λ (x : List ℕ). let z = close_each (state m.nodes []) x in changed (settle z.nodes) z.log) all

@@ -151,18 +151,18 @@ module _ (t : List ℕ) (m : Model) (r p : ℕ) (i : ChildIndex) (k : ℕ) (n : 
       ∙ (λ s. fetch_row t m (d s, (e s).0))
 
   module _ (sound-m : sound m ≡ true) (shows : Shows m.nodes (p, i.0)) where
-    pub parent-small : p < 256
-    parent-small = let w = (sound_of m sound-m).well in used_small m.nodes w p (open_used m.nodes p shows.0)
+    pub parent_small : p < 256
+    parent_small = let w = (sound_of m sound-m).well in used_small m.nodes w p (open_used m.nodes p shows.0)
 
-    pub node-parent : n ≡ node_or_fresh t m.nodes (p, i.0) k → n.parent < 256
+    pub node_parent : n ≡ node_or_fresh t m.nodes (p, i.0) k → n.parent < 256
     unfolding fresh
-    node-parent g = rw g (by k f)
+    node_parent g = rw g (by k f)
       where
         by : (j : ℕ) → j ≡ child m.nodes p i.0 → (node_or_fresh t m.nodes (p, i.0) j).parent < 256
-        by zero z = parent-small
-        by (suc j) z = rw (child_found used m.nodes p i.0 j (sym z)).1 parent-small
+        by zero z = parent_small
+        by (suc j) z = rw (child_found used m.nodes p i.0 j (sym z)).1 parent_small
 
-    pub node-followable : n ≡ node_or_fresh t m.nodes (p, i.0) k → k ≡ 0 → n.ongoing ≡ true → Followable m n
-    node-followable g z o =
+    pub node_followable : n ≡ node_or_fresh t m.nodes (p, i.0) k → k ≡ 0 → n.ongoing ≡ true → Followable m n
+    node_followable g z o =
         let q : n ≡ fresh t m.nodes p i.0 = g ∙ ap (node_or_fresh t m.nodes (p, i.0)) z in
         rw q (fresh_followable t m sound-m p i.0 shows (sym f ∙ z) (sym (ap (λ (x : Node). x.ongoing) q) ∙ o))

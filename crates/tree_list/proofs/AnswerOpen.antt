@@ -58,9 +58,9 @@ module _ (m : Model) (r : ℕ) (n : Node) (j : ℕ) where
   open_already o = rw o
 
   module _ (c : is_open n ≡ false) where
-    pub open-childless : n.direct ≡ 0 → open_node m r n j ≡ no_change 5 m
+    pub open_childless : n.direct ≡ 0 → open_node m r n j ≡ no_change 5 m
     unfolding open_node
-    open-childless z = rw (c, z)
+    open_childless z = rw (c, z)
 
     module _ (d : n.direct ≢ 0) where
       pub open_full : (k : ℕ) → k ≡ j → k ≡ 0 → open_node m r n j ≡ no_change 6 m
@@ -71,9 +71,9 @@ module _ (m : Model) (r : ℕ) (n : Node) (j : ℕ) where
         some : j ≢ 0
         some z = f (e ∙ z)
 
-        pub open-over : sound m ≡ true → row_limit - m.published < n.direct → open_node m r n j ≡ no_change 7 m
+        pub open_over : sound m ≡ true → row_limit - m.published < n.direct → open_node m r n j ≡ no_change 7 m
         unfolding open_node
-        open-over s h =
+        open_over s h =
             let p = (sound_given m (sound_of m s)).published in
             rw (c, ne_eqb n.direct 0 d, ne_eqb j 0 some, lt-ltb row_limit (row_total m.nodes + n.direct) (omega (arith, (sound_of m s).limit)))
 
@@ -81,11 +81,11 @@ module _ (m : Model) (r : ℕ) (n : Node) (j : ℕ) where
         open_fits s h = omega (arith, (sound_given m (sound_of m s)).published, (sound_of m s).limit)
 
         -- the node can be put, and the row after it has a number
-        pub open-asks : (place : ℕ) → sound m ≡ true → CanOpen m place r j n → n.direct ≤ row_limit - m.published → Openable m place r k n
-        open-asks place s o h = subst (λ (i : ℕ). Openable m place r i n) (sym e) (o c d some (open_fits s h))
+        pub open_asks : (place : ℕ) → sound m ≡ true → CanOpen m place r j n → n.direct ≤ row_limit - m.published → Openable m place r k n
+        open_asks place s o h = subst (λ (i : ℕ). Openable m place r i n) (sym e) (o c d some (open_fits s h))
 
         pub open_next : (place : ℕ) → sound m ≡ true → CanOpen m place r j n → n.direct ≤ row_limit - m.published → suc r < 2 ^ 64
-        open_next place s o h = let S = sound_of m s in omega (arith, found_inside m S r place (open-asks place s o h).found, S.limit)
+        open_next place s o h = let S = sound_of m s in omega (arith, found_inside m S r place (open_asks place s o h).found, S.limit)
 
         pub open_done :
             (a : ChangeAnswer) (q : Model)

@@ -23,23 +23,23 @@ module _ (t : List ℕ) (m : Model) where
   update_unsound e = rw e
 
   module _ (e : sound m ≡ true) where
-    pub update-unreadable : readable t ≡ false → answer_update t m ≡ no_update 2 m
+    pub update_unreadable : readable t ≡ false → answer_update t m ≡ no_update 2 m
     unfolding answer_update
-    update-unreadable f = rw (e, f)
+    update_unreadable f = rw (e, f)
 
     module _ (f : readable t ≡ true) where
-      pub update-back : any_went_back t m.nodes (visits m.nodes) ≡ true → answer_update t m ≡ no_update 8 m
+      pub update_back : any_went_back t m.nodes (visits m.nodes) ≡ true → answer_update t m ≡ no_update 8 m
       unfolding answer_update
-      update-back g = rw (e, f, g)
+      update_back g = rw (e, f, g)
 
       module _ (g : any_went_back t m.nodes (visits m.nodes) ≡ false) where
-        pub update-done : answer_update t m ≡ updated m later
+        pub update_done : answer_update t m ≡ updated m later
         unfolding answer_update
-        update-done = rw (e, f, g)
+        update_done = rw (e, f, g)
 
-        pub update-limit : ltb row_limit (row_total later.nodes) ≡ true → answer_update t m ≡ no_update 7 m
+        pub update_limit : ltb row_limit (row_total later.nodes) ≡ true → answer_update t m ≡ no_update 7 m
         unfolding updated
-        update-limit h = update-done ∙ rw h
+        update_limit h = update_done ∙ rw h
 
 -- what the update may come to
 pub update_fits : (t : List ℕ) (m : Model) → ltb row_limit (row_total (later t m).nodes) ≡ false → row_total (later t m).nodes ≤ row_limit

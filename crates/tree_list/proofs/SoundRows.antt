@@ -19,7 +19,7 @@ use Rattle.runs.specs.Search.{region_at, child_at}
 use Rattle.runs.specs.Laid.{live}
 use Rattle.runs.proofs.Search.{at_holds}
 use Rattle.steps.proofs.Opening.{row_shows}
-use Rattle.steps.proofs.SoundRegions.{few, sound_regions, found_inside, found_row, region-children}
+use Rattle.steps.proofs.SoundRegions.{few, sound_regions, found_inside, found_row, region_children}
 use Rattle.steps.specs.Settled.{Sound}
 use Rattle.steps.proofs.Settling.{sound_of}
 use Rattle.model.proofs.Search.{child_found}
@@ -57,7 +57,7 @@ module _ (m : Model) (sound-m : sound m ≡ true) (r i : ℕ) (h : region_at (li
   place_holds = rw (found_at m r i h) (((at_holds (live m) r i h).low, (at_holds (live m) r i h).high))
 
   pub place_fits : ((k : ℕ) → direct_of m.nodes k < 2 ^ 64) → q.offset + q.length < 2 ^ 64
-  place_fits f = rw (found_at m r i h) (omega (arith, region-children m S m m.nodes refl i (at_holds (live m) r i h).below, f (at (live m) i).node))
+  place_fits f = rw (found_at m r i h) (omega (arith, region_children m S m m.nodes refl i (at_holds (live m) r i h).below, f (at (live m) i).node))
 
   pub row_there : Shows m.nodes (row_at m.nodes r)
   row_there = row_shows m.nodes S.well r (found_inside m S r i h)

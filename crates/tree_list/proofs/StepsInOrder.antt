@@ -84,16 +84,16 @@ module _ (t : List ℕ) (ns : List Node) (w : WellFormed ns) where
     room : p.log.len < 512
     room = omega (arith, held_len t p s H, steps_longer t (decode x ∷ es) s, ap (λ (u : State). length u.log) e, update_short t ns w)
 
-    growth-within : x % 2 ≢ 0 → is_open (node_at s.nodes (x / 2)) ≡ true → row_total s.nodes + added t (node_at s.nodes (x / 2)) ≤ row_limit
+    growth_within : x % 2 ≢ 0 → is_open (node_at s.nodes (x / 2)) ≡ true → row_total s.nodes + added t (node_at s.nodes (x / 2)) ≤ row_limit
     unfolding steps step
-    growth-within d o =
+    growth_within d o =
         let c = course_fuller t (step t s (decode x)) es (course_now t s (decode x) es C).1 in
         let g = grow_fuller t s (x / 2) now o in
         let f : row_total (step t s (decode x)).nodes ≡ row_total (step t s (grow (x / 2))).nodes = ap (λ (a : Step). row_total (step t s a).nodes) (decode_odd x d) in
         omega (arith, c, f, g, ap (λ (u : State). row_total u.nodes) e, limit)
 
-    step-ready : Stepping t p x
-    step-ready = record {
+    step_ready : Stepping t p x
+    step_ready = record {
       texted = record {
         sound = subst Sound (sym H.model) (settle_sound s.nodes now.well within);
         ready = ready_held t p s H (x / 2) now;
@@ -102,7 +102,7 @@ module _ (t : List ℕ) (ns : List Node) (w : WellFormed ns) where
       limit = λ d o.
           let q : is_open (node_at s.nodes (x / 2)) ≡ true = ap is_open ((held_bare t p s H).node (x / 2)) ∙ o in
           let a : added t (node_at s.nodes (x / 2)) ≡ added t (node_at p.model.nodes (x / 2)) = ap (λ (n : Node). added t n) ((held_bare t p s H).node (x / 2)) in
-          omega (arith, growth-within d q, a, held_total t p s H);
+          omega (arith, growth_within d q, a, held_total t p s H);
     }
 
 -- p is a state on the way, from which the steps from step i on lead to the end
@@ -130,31 +130,31 @@ module _ (t : List ℕ) (m : Model) (S : Sound m) where
       ahead : drop i (visits ns) ≡ decode x ∷ rest
       ahead = visits_ahead ns S.well r h i l
 
-      course-ahead : Course t U.at (decode x ∷ rest)
-      course-ahead = subst (Course t U.at) ahead U.course
+      course_ahead : Course t U.at (decode x ∷ rest)
+      course_ahead = subst (Course t U.at) ahead U.course
 
-      end-ahead : steps t U.at (decode x ∷ rest) ≡ steps t (state ns []) (visits ns)
-      end-ahead = sym (ap (steps t U.at) ahead) ∙ U.«end»
+      end_ahead : steps t U.at (decode x ∷ rest) ≡ steps t (state ns []) (visits ns)
+      end_ahead = sym (ap (steps t U.at) ahead) ∙ U.«end»
 
-      pub run-ready : row_total (steps t (state ns []) (visits ns)).nodes ≤ row_limit → Stepping t p x
-      run-ready limit = step-ready t ns S.well limit p U.at U.held x rest course-ahead end-ahead
+      pub run_ready : row_total (steps t (state ns []) (visits ns)).nodes ≤ row_limit → Stepping t p x
+      run_ready limit = step_ready t ns S.well limit p U.at U.held x rest course_ahead end_ahead
 
-      pub run-goes : (q : Progress) → Does t p (decode x) q → Underway t ns q (i + 1)
+      pub run_goes : (q : Progress) → Does t p (decode x) q → Underway t ns q (i + 1)
       unfolding steps
-      run-goes q D = record { at = step t U.at (decode x); held = D U.at U.held; course = (course_now t U.at (decode x) rest course-ahead).1; «end» = end-ahead }
+      run_goes q D = record { at = step t U.at (decode x); held = D U.at U.held; course = (course_now t U.at (decode x) rest course_ahead).1; «end» = end_ahead }
 
     module _ (l : r.len ≤ i) where
-      at-end : U.at ≡ steps t (state ns []) (visits ns)
+      at_end : U.at ≡ steps t (state ns []) (visits ns)
       unfolding steps
-      at-end = sym (ap (steps t U.at) (visits_done ns S.well r h i l)) ∙ U.«end»
+      at_end = sym (ap (steps t U.at) (visits_done ns S.well r h i l)) ∙ U.«end»
 
-      held-end : Holding p (steps t (state ns []) (visits ns))
-      held-end = subst (Holding p) at-end U.held
+      held_end : Holding p (steps t (state ns []) (visits ns))
+      held_end = subst (Holding p) at_end U.held
 
       pub run_ends : row_total (steps t (state ns []) (visits ns)).nodes ≤ row_limit → (c : Node) → c ≡ node_at p.model.nodes 0 → record { refusal = 0; model = p.model; log = p.log; ongoing = c.ongoing } ≡ updated m (steps t (state ns []) (visits ns))
       unfolding updated
       run_ends limit c e =
           let s = steps t (state ns []) (visits ns) in
-          let o : c.ongoing ≡ (node_at s.nodes 0).ongoing = ap (λ (n : Node). n.ongoing) e ∙ sym (ap (λ (n : Node). n.ongoing) ((held_bare t p s held-end).node 0)) in
+          let o : c.ongoing ≡ (node_at s.nodes 0).ongoing = ap (λ (n : Node). n.ongoing) e ∙ sym (ap (λ (n : Node). n.ongoing) ((held_bare t p s held_end).node 0)) in
           rw (le-ltb row_limit (row_total s.nodes) limit)
-          (λ j. record { refusal = 0; model = held-end.model j; log = held-end.log j; ongoing = o j })
+          (λ j. record { refusal = 0; model = held_end.model j; log = held_end.log j; ongoing = o j })

@@ -91,11 +91,11 @@ module _ (t : List ℕ) (p : Progress) (s : State) (H : Holding p s) where
     near : bare o ≡ bare n
     near = held_bare.node k ∙ ap bare (sym is)
 
-    same-change : change ≡ text_change (row_of s.nodes k)
-    same-change = ap text_change (same_row s.nodes ms held_bare k)
+    same_change : change ≡ text_change (row_of s.nodes k)
+    same_change = ap text_change (same_row s.nodes ms held_bare k)
 
-    more-is : (b : Bool) → ltb 0 (added t n) ≡ b → ltb 0 (added t o) ≡ b
-    more-is b e = ap (λ (x : Node). ltb 0 (added t x)) near ∙ e
+    more_is : (b : Bool) → ltb 0 (added t n) ≡ b → ltb 0 (added t o) ≡ b
+    more_is b e = ap (λ (x : Node). ltb 0 (added t x)) near ∙ e
 
     same_version : (b : Bool) → eqb n.version (item_version t n.entry) ≡ b → eqb o.version (item_version t o.entry) ≡ b
     same_version b e = ap (λ (x : Node). eqb x.version (item_version t x.entry)) near ∙ e
@@ -108,36 +108,36 @@ module _ (t : List ℕ) (p : Progress) (s : State) (H : Holding p s) where
         new : Node → Node
         new x = with_version (item_version t x.entry) x
 
-    text-held : (b c : Bool) → ltb 0 (added t n) ≡ b → eqb n.version (item_version t n.entry) ≡ c → (r : Progress)
+    text_held : (b c : Bool) → ltb 0 (added t n) ≡ b → eqb n.version (item_version t n.entry) ≡ c → (r : Progress)
         → r.model ≡ settle (cond b s.nodes (set s.nodes k (with_version (item_version t o.entry) o)))
         → r.log ≡ logged_when (b || not c) p.log change
         → Holding r (step t s (text k))
     unfolding step
-    text-held b c e f r x y =
+    text_held b c e f r x y =
         subst (Holding r) (sym (text_at t s k above))
         (record {
-          model = rw (more-is b e) x;
-          log = rw (more-is b e, same_version c f) (y ∙ held_logged (b || not c) (b || not c) change (text_change (row_of s.nodes k)) refl same-change h);
+          model = rw (more_is b e) x;
+          log = rw (more_is b e, same_version c f) (y ∙ held_logged (b || not c) (b || not c) change (text_change (row_of s.nodes k)) refl same_change h);
         })
 
-    pub text-more : (c : ℕ) → c ≡ item_count t n.entry → n.direct < c → (l : Log) → l ≡ logged p.log change → Holding (record { model = p.model; log = l }) (step t s (text k))
-    text-more c e d l y = text-held true (eqb n.version (item_version t n.entry)) (lt-ltb 0 (added t n) (omega (arith, e))) refl (record { model = p.model; log = l }) H.model y
+    pub text_more : (c : ℕ) → c ≡ item_count t n.entry → n.direct < c → (l : Log) → l ≡ logged p.log change → Holding (record { model = p.model; log = l }) (step t s (text k))
+    text_more c e d l y = text_held true (eqb n.version (item_version t n.entry)) (lt-ltb 0 (added t n) (omega (arith, e))) refl (record { model = p.model; log = l }) H.model y
 
     module _ (c : ℕ) (e : c ≡ item_count t n.entry) (d : c ≤ n.direct) where
       none : ltb 0 (added t n) ≡ false
       none = le-ltb 0 (added t n) (omega (arith, e))
 
-      own-version : n.version ≡ item_version t n.entry → set s.nodes k (with_version (item_version t o.entry) o) ≡ s.nodes
-      own-version f =
+      own_version : n.version ≡ item_version t n.entry → set s.nodes k (with_version (item_version t o.entry) o) ≡ s.nodes
+      own_version f =
           ap (λ (z : ℕ). set s.nodes k (with_version z o)) (sym (subst (λ (x : Node). x.version ≡ item_version t x.entry) (sym near) f))
           ∙ set-get_or s.nodes k no_node
 
       pub text_same : (z : ℕ) → z ≡ item_version t n.entry → n.version ≡ z → Holding p (step t s (text k))
-      text_same z g f = text-held false true none (eq-eqb n.version (item_version t n.entry) (f ∙ g)) p (H.model ∙ sym (ap settle (own-version (f ∙ g)))) refl
+      text_same z g f = text_held false true none (eq-eqb n.version (item_version t n.entry) (f ∙ g)) p (H.model ∙ sym (ap settle (own_version (f ∙ g)))) refl
 
-      pub text-new : (z : ℕ) → z ≡ item_version t n.entry → n.version ≢ z → (q : Model) (l : Log) → q ≡ settle (set ms k (with_version z (node_at ms k))) → l ≡ logged p.log change → Holding (record { model = q; log = l }) (step t s (text k))
-      text-new z g f q l x y =
-          text-held false false none (ne_eqb n.version (item_version t n.entry) (λ w. f (w ∙ sym g))) (record { model = q; log = l })
+      pub text_new : (z : ℕ) → z ≡ item_version t n.entry → n.version ≢ z → (q : Model) (l : Log) → q ≡ settle (set ms k (with_version z (node_at ms k))) → l ≡ logged p.log change → Holding (record { model = q; log = l }) (step t s (text k))
+      text_new z g f q l x y =
+          text_held false false none (ne_eqb n.version (item_version t n.entry) (λ w. f (w ∙ sym g))) (record { model = q; log = l })
           (x ∙ ap (λ (w : ℕ). settle (set ms k (with_version w (node_at ms k)))) g ∙ versioned) y
 
   pub grow_held :

@@ -53,17 +53,17 @@ module _ (t : List ℕ) (n : Node) where
 
   -- of a step's number
   module _ (x : ℕ) where
-    pub back-text : x % 2 ≡ 0 → step_back t n x ≡ node_back t n
+    pub back_text : x % 2 ≡ 0 → step_back t n x ≡ node_back t n
     unfolding step_back
-    back-text e = rw (eq-eqb (x % 2) 0 e)
+    back_text e = rw (eq-eqb (x % 2) 0 e)
 
-    pub back-grow : x % 2 ≢ 0 → step_back t n x ≡ false
+    pub back_grow : x % 2 ≢ 0 → step_back t n x ≡ false
     unfolding step_back
-    back-grow d = rw (ne_eqb (x % 2) 0 d)
+    back_grow d = rw (ne_eqb (x % 2) 0 d)
 
-    pub rows-text : x % 2 ≡ 0 → step_rows t n x ≡ 0
+    pub rows_text : x % 2 ≡ 0 → step_rows t n x ≡ 0
     unfolding step_rows
-    rows-text e = rw (eq-eqb (x % 2) 0 e)
+    rows_text e = rw (eq-eqb (x % 2) 0 e)
 
     pub rows_grow : x % 2 ≢ 0 → step_rows t n x ≡ added_rows t n
     unfolding step_rows
@@ -131,12 +131,12 @@ module _ (t : List ℕ) (m : Model) (s : sound m ≡ true) (r : Order) (h : Hold
     abbrev later : ℕ
     later = row_total (steps t (state ns []) (visits ns)).nodes
 
-    pub limit-passed : i < r.len → (sum : ℕ) → Summed sum i → sum ≤ row_limit → (c : ℕ) → c ≡ step_rows t now x → row_limit - sum < c → true ≡ ltb row_limit later
-    limit-passed l sum v k c e p = sym (lt-ltb row_limit later (omega (arith, v, growth_ahead l, e, update_row_total t ns (sound_of m s).well nb)))
+    pub limit_passed : i < r.len → (sum : ℕ) → Summed sum i → sum ≤ row_limit → (c : ℕ) → c ≡ step_rows t now x → row_limit - sum < c → true ≡ ltb row_limit later
+    limit_passed l sum v k c e p = sym (lt-ltb row_limit later (omega (arith, v, growth_ahead l, e, update_row_total t ns (sound_of m s).well nb)))
 
-    pub limit-kept : r.len ≤ i → (sum : ℕ) → Summed sum i → sum ≤ row_limit → false ≡ ltb row_limit later
+    pub limit_kept : r.len ≤ i → (sum : ℕ) → Summed sum i → sum ≤ row_limit → false ≡ ltb row_limit later
     unfolding growth
-    limit-kept l sum v k =
+    limit_kept l sum v k =
         let z : growth t ns (drop i (visits ns)) ≡ 0 = ap (growth t ns) (visits_done ns (sound_of m s).well r h i l) in
         sym (le-ltb row_limit later (omega (arith, v, z, update_row_total t ns (sound_of m s).well nb)))
 

@@ -4,7 +4,7 @@ use Prim.Native.Nat.{◌-◌}
 use lib.ListN.{get_or}
 use mathlib.Core.Logic.{⊎_elim}
 use borrow.Author.Tests.{leb-true, leb-false, ltb-true, ltb-false}
-use Rattle.orders.proofs.NextChild.{Search, search_begins, search-better, search-passes, search-ends, search_empty}
+use Rattle.orders.proofs.NextChild.{Search, search_begins, search_better, search_passes, search_ends, search_empty}
 use Rattle.orders.proofs.next_child.Statement.{statement}
 use Rattle.orders.proofs.next_child.Tie as tie
 
@@ -42,7 +42,7 @@ loop-again : tie.Need-loop-preserved invariant-loop decreases-loop
 loop-again c =
     let s = c.before.before.before.before.before.before.before.before.args in
     let l = c.before.before.before.before.before.before.loop in
-    search-better s.parents.now s.indices.now s.node s.low s.limit l.best l.bound l.k l.invariant (omega arith)
+    search_better s.parents.now s.indices.now s.node s.low s.limit l.best l.bound l.k l.invariant (omega arith)
     c.before.before.if2.true (leb-true _ _ c.before.if3.true) (ltb-true _ _ c.if4.true)
 
 add-k-2 : tie.Need-overflow-add-k-2 invariant-loop decreases-loop
@@ -55,11 +55,11 @@ loop-again-2 : tie.Need-loop-preserved-2 invariant-loop decreases-loop
 loop-again-2 c =
     let s = c.before.before.before.before.before.before.args in
     let l = c.before.before.before.before.loop in
-    search-passes s.parents.now s.indices.now s.node s.low s.limit l.best l.bound l.k l.invariant (omega arith)
+    search_passes s.parents.now s.indices.now s.node s.low s.limit l.best l.bound l.k l.invariant (omega arith)
     (λ e h. ⊎_elim (λ w. ltb-false _ _ w.2.left) (⊎_elim (λ w. absurd (omega (arith, leb-false s.low (get_or s.indices.now l.k 0) w.1.left))) (λ w. absurd (w.left e))) c.if2.branch)
 
 returns-2 : tie.Need-returns-2 invariant-loop decreases-loop
-returns-2 c = search-ends _ _ _ _ _ c.before.loop.best c.before.loop.bound c.before.loop.k c.before.loop.invariant c.loop-test.false
+returns-2 c = search_ends _ _ _ _ _ c.before.loop.best c.before.loop.bound c.before.loop.k c.before.loop.invariant c.loop-test.false
 
 pub next-child-spec : {M : Type 1} → statement M
 next-child-spec =

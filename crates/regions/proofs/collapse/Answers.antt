@@ -7,7 +7,7 @@ use Rattle.model.proofs.Arrays.{regions_long}
 use Rattle.runs.specs.Regions.{at}
 use Rattle.runs.specs.Laid.{live, Laid}
 use Rattle.runs.proofs.Laid.{live_count, live_few, live_at}
-use Rattle.regions.proofs.Steps.{earlier_asks, remove-asks, collapse-asks, collapse-done}
+use Rattle.regions.proofs.Steps.{earlier_asks, remove_asks, collapse_asks, collapse_done}
 use Rattle.regions.proofs.collapse.Goals as goal
 
 rows : (m : Model) → length m.regions ≡ region_places → Laid m → (i : ℕ) → i < length (live m) → (at (live m) i).length ≡ (get_or m.regions i no_region).length
@@ -28,7 +28,7 @@ remove_region-out-requires c =
     let m = c.args.m in
     let long = regions_long m _ c.well_formed.0 in
     let h = c.requires.place_in_bounds.0 in
-    let asks = remove-asks m (live_few m long c.requires.laid) c.args.place _ h (rows m long c.requires.laid c.args.place h) _ c.move_starts-below.ensures in
+    let asks = remove_asks m (live_few m long c.requires.laid) c.args.place _ h (rows m long c.requires.laid c.args.place h) _ c.move_starts-below.ensures in
     record { laid = asks.0; place_in_bounds = asks.1 }
 
 pub merge_regions-requires : goal.merge_regions-requires
@@ -36,7 +36,7 @@ merge_regions-requires c =
     let m = c.args.m in
     let long = regions_long m _ c.well_formed.0 in
     let h = c.requires.place_in_bounds.0 in
-    let asks = collapse-asks m (live_few m long c.requires.laid) c.args.place _ h (rows m long c.requires.laid c.args.place h) _ c.move_starts-below.ensures _ c.remove_region-out.ensures c.requires.place_in_bounds.1 in
+    let asks = collapse_asks m (live_few m long c.requires.laid) c.args.place _ h (rows m long c.requires.laid c.args.place h) _ c.move_starts-below.ensures _ c.remove_region-out.ensures c.requires.place_in_bounds.1 in
     record { laid = asks.0; m_bound = asks.1 }
 
 pub returns : goal.returns
@@ -44,4 +44,4 @@ returns c =
     let m = c.args.m in
     let long = regions_long m _ c.well_formed.0 in
     let h = c.requires.place_in_bounds.0 in
-    collapse-done m (live_few m long c.requires.laid) c.args.place _ h (rows m long c.requires.laid c.args.place h) _ c.move_starts-below.ensures _ c.remove_region-out.ensures _ c.merge_regions.ensures
+    collapse_done m (live_few m long c.requires.laid) c.args.place _ h (rows m long c.requires.laid c.args.place h) _ c.move_starts-below.ensures _ c.remove_region-out.ensures _ c.merge_regions.ensures

@@ -1,5 +1,5 @@
 use Rattle.runs.specs.Laid.{live}
-use Rattle.regions.proofs.Steps.{later_asks, insert_asks, grow-asks, grow-done}
+use Rattle.regions.proofs.Steps.{later_asks, insert_asks, grow_asks, grow_done}
 use Rattle.regions.proofs.grow.Goals as goal
 
 pub move_starts-below-requires : goal.move_starts-below-requires
@@ -14,9 +14,9 @@ insert_region-put-requires c =
 
 pub merge_regions-requires : goal.merge_regions-requires
 merge_regions-requires c =
-    let asks = grow-asks c.args.m c.args.place c.args.row.0 c.args.node c.args.from.0 c.args.count c.requires.place_in_bounds.0 c.requires.m_len_bound.0 _ c.move_starts-below.ensures _ c.insert_region-put.ensures c.requires.m_len_bound.1 in
+    let asks = grow_asks c.args.m c.args.place c.args.row.0 c.args.node c.args.from.0 c.args.count c.requires.place_in_bounds.0 c.requires.m_len_bound.0 _ c.move_starts-below.ensures _ c.insert_region-put.ensures c.requires.m_len_bound.1 in
     record { laid = asks.0; m_bound = asks.1 }
 
 pub returns : goal.returns
 returns c =
-    grow-done c.args.m c.args.place c.args.row.0 c.args.node c.args.from.0 c.args.count c.requires.place_in_bounds.0 c.requires.m_len_bound.0 _ c.move_starts-below.ensures _ c.insert_region-put.ensures _ c.merge_regions.ensures
+    grow_done c.args.m c.args.place c.args.row.0 c.args.node c.args.from.0 c.args.count c.requires.place_in_bounds.0 c.requires.m_len_bound.0 _ c.move_starts-below.ensures _ c.insert_region-put.ensures _ c.merge_regions.ensures

@@ -3,7 +3,7 @@ use Rattle.model.specs.declared.Model.{Model}
 use Rattle.model.proofs.Arrays.{regions_long}
 use Rattle.model.specs.Regions.{no_region}
 use Rattle.runs.specs.Laid.{with_regions, with_counted}
-use Rattle.runs.proofs.Edits.{gap, gap-none}
+use Rattle.runs.proofs.Edits.{gap, gap_none}
 use Rattle.runs.proofs.Laid.{live_count, insert_laid}
 use Rattle.regions.proofs.Turns.{insert_turn}
 use Rattle.regions.proofs.insert_region.Goals as goal
@@ -13,7 +13,7 @@ loop-i-init c =
     let m = c.args.m in
     let long = regions_long m _ c.well_formed.0 in
     let count = live_count m long c.requires.laid in
-    (omega arith, omega arith, search rules, ap (with_regions m) (sym (gap-none m.regions m.region_count no_region (omega arith))))
+    (omega arith, omega arith, search rules, ap (with_regions m) (sym (gap_none m.regions m.region_count no_region (omega arith))))
 
 pub loop-i-preserved : goal.loop-i-preserved
 loop-i-preserved c =

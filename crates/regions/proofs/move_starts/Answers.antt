@@ -4,7 +4,7 @@ use Rattle.model.proofs.Arrays.{regions_long}
 use Rattle.model.specs.Regions.{no_region}
 use Rattle.runs.specs.Changes.{moved}
 use Rattle.runs.specs.Laid.{with_regions}
-use Rattle.runs.proofs.Edits.{mapPart, part_none}
+use Rattle.runs.proofs.Edits.{map_part, part_none}
 use Rattle.runs.proofs.Laid.{live_count, count_few, live_at, map_laid}
 use Rattle.regions.proofs.Turns.{move_read, move_turn}
 use Rattle.regions.proofs.move_starts.Goals as goal
@@ -47,5 +47,5 @@ returns c =
     let long = regions_long m _ c.well_formed.0 in
     let e : l.i ≡ m.region_count = omega arith in
     l.invariant.3
-    ∙ ap (λ (k : ℕ). with_regions m (mapPart (moved c.args.later c.args.earlier) c.args.place (k - c.args.place) m.regions)) e
+    ∙ ap (λ (k : ℕ). with_regions m (map_part (moved c.args.later c.args.earlier) c.args.place (k - c.args.place) m.regions)) e
     ∙ map_laid m long c.requires.laid (moved c.args.later c.args.earlier) c.args.place c.requires.place_in_bounds.0

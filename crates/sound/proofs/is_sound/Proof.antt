@@ -3,7 +3,7 @@ use Prim.Native.Nat.{◌^◌}
 use mathlib.Core.Path.{sym, ◌∙◌}
 use borrow.Author.Tests.{not-true, not-false}
 use Rattle.model.proofs.Arrays.{nodes_long, node_fits}
-use Rattle.sound.proofs.Whole.{twins_bad, places_bad, totals_bad, formed, all-rows, regions-bad, count-bad, published-bad, limit-left}
+use Rattle.sound.proofs.Whole.{twins_bad, places_bad, totals_bad, formed, all_rows, regions_bad, count_bad, published_bad, limit_left}
 use borrow.Author.Rules.{rules}
 use Rattle.sound.proofs.is_sound.Statement.{statement}
 use Rattle.sound.proofs.is_sound.Tie as tie
@@ -45,7 +45,7 @@ returns-4 c =
     let size = nodes_long m _ s.well-formed.0 in
     let totals = (sym c.before.before.totals-ok.ensures ∙ not-false _ c.before.if3.false) in
     let t = formed m size (sym c.before.before.before.before.before.before.has-twins.ensures ∙ c.before.before.before.before.before.if1.false) (sym c.before.before.before.before.places-ok.ensures ∙ not-false _ c.before.before.before.if2.false) totals (2 ^ 64) (λ k. (node_fits m _ s.well-formed.0 k).total_fits) in
-    count-bad m size t totals c.if4.true
+    count_bad m size t totals c.if4.true
 
 regions-ok-requires : tie.Need-regions-ok-requires
 regions-ok-requires c κs =
@@ -54,7 +54,7 @@ regions-ok-requires c κs =
     let size = nodes_long m _ s.well-formed.0 in
     let totals = (sym c.before.before.totals-ok.ensures ∙ not-false _ c.before.if3.false) in
     let t = formed m size (sym c.before.before.before.before.before.before.has-twins.ensures ∙ c.before.before.before.before.before.if1.false) (sym c.before.before.before.before.places-ok.ensures ∙ not-false _ c.before.before.before.if2.false) totals (2 ^ 64) (λ k. (node_fits m _ s.well-formed.0 k).total_fits) in
-    (t, all-rows m size t totals, c.if4.false)
+    (t, all_rows m size t totals, c.if4.false)
 
 returns-5 : tie.Need-returns-5
 returns-5 c =
@@ -63,7 +63,7 @@ returns-5 c =
     let size = nodes_long m _ s.well-formed.0 in
     let totals = (sym c.before.before.before.before.totals-ok.ensures ∙ not-false _ c.before.before.before.if3.false) in
     let t = formed m size (sym c.before.before.before.before.before.before.before.before.has-twins.ensures ∙ c.before.before.before.before.before.before.before.if1.false) (sym c.before.before.before.before.before.before.places-ok.ensures ∙ not-false _ c.before.before.before.before.before.if2.false) totals (2 ^ 64) (λ k. (node_fits m _ s.well-formed.0 k).total_fits) in
-    regions-bad m size t totals (sym c.before.regions-ok.ensures ∙ not-true _ c.if5.true)
+    regions_bad m size t totals (sym c.before.regions-ok.ensures ∙ not-true _ c.if5.true)
 
 element-copy-out-if6 : tie.Need-element-copy-out-if6
 element-copy-out-if6 c = search rules
@@ -75,7 +75,7 @@ returns-6 c =
     let size = nodes_long m _ s.well-formed.0 in
     let totals = (sym c.before.before.before.before.before.totals-ok.ensures ∙ not-false _ c.before.before.before.before.if3.false) in
     let t = formed m size (sym c.before.before.before.before.before.before.before.before.before.has-twins.ensures ∙ c.before.before.before.before.before.before.before.before.if1.false) (sym c.before.before.before.before.before.before.before.places-ok.ensures ∙ not-false _ c.before.before.before.before.before.before.if2.false) totals (2 ^ 64) (λ k. (node_fits m _ s.well-formed.0 k).total_fits) in
-    published-bad m size t totals (sym c.before.before.regions-ok.ensures ∙ not-false _ c.before.if5.false) c.if6.true
+    published_bad m size t totals (sym c.before.before.regions-ok.ensures ∙ not-false _ c.before.if5.false) c.if6.true
 
 returns-7 : tie.Need-returns-7
 returns-7 c =
@@ -84,7 +84,7 @@ returns-7 c =
     let size = nodes_long m _ s.well-formed.0 in
     let totals = (sym c.before.before.before.before.before.totals-ok.ensures ∙ not-false _ c.before.before.before.before.if3.false) in
     let t = formed m size (sym c.before.before.before.before.before.before.before.before.before.has-twins.ensures ∙ c.before.before.before.before.before.before.before.before.if1.false) (sym c.before.before.before.before.before.before.before.places-ok.ensures ∙ not-false _ c.before.before.before.before.before.before.if2.false) totals (2 ^ 64) (λ k. (node_fits m _ s.well-formed.0 k).total_fits) in
-    limit-left m size t totals (sym c.before.before.regions-ok.ensures ∙ not-false _ c.before.if5.false) c.if6.false
+    limit_left m size t totals (sym c.before.before.regions-ok.ensures ∙ not-false _ c.before.if5.false) c.if6.false
 
 pub is-sound-spec : {M : Type 1} → statement M
 is-sound-spec =

@@ -10,7 +10,7 @@ use Rattle.model.proofs.Arrays.{nodes_long, regions_long, node_fits}
 use Rattle.sound.proofs.Runs.{region_at, zero_from}
 use Rattle.sound.proofs.Children.{not_deep}
 use Rattle.sound.proofs.Walk.{depth_less, place_index, number_low}
-use Rattle.sound.proofs.Course.{Course, course_place, course_start, course_up, course_ended, course_end, course-bad, course-length, course-fits, course-in, course-along, course-stuck}
+use Rattle.sound.proofs.Course.{Course, course_place, course_start, course_up, course_ended, course_end, course_bad, course_length, course_fits, course_in, course_along, course_stuck}
 use borrow.Author.Rules.{rules}
 use native.Mathlib.Omega.{arith}
 use Rattle.sound.proofs.regions_ok.Statement.{statement}
@@ -106,7 +106,7 @@ returns-2 c =
     let w = well-formed m.nodes (nodes_long m _ s.well-formed.0) s.requires.0 in
     let places = regions_long m _ s.well-formed.0 in
     let l = c.before.before.before.before.before.before.before.before.loop in
-    course-bad m.nodes w m.regions places m.region_count l.j l.s l.p l.i (omega arith) c.before.before.before.before.if1.false (sym c.before.begins-at.ensures ∙ not-true _ c.if3.true) l.invariant.2
+    course_bad m.nodes w m.regions places m.region_count l.j l.s l.p l.i (omega arith) c.before.before.before.before.if1.false (sym c.before.begins-at.ensures ∙ not-true _ c.if3.true) l.invariant.2
 
 add-end : tie.Need-overflow-add-end invariant-loop decreases-loop
 add-end c =
@@ -117,7 +117,7 @@ add-end c =
     let l = c.before.before.before.before.before.before.before.before.before.loop in
     let b = (sym c.before.before.begins-at.ensures ∙ not-false _ c.before.if3.false) in
     let inside = c.before.before.before.before.before.if1.false in
-    omega (arith, course-length m.nodes w m.regions places m.region_count l.j l.s l.p l.i (omega arith) inside b, (node_fits m _ s.well-formed.0 l.p).direct_fits)
+    omega (arith, course_length m.nodes w m.regions places m.region_count l.j l.s l.p l.i (omega arith) inside b, (node_fits m _ s.well-formed.0 l.p).direct_fits)
 
 add-s : tie.Need-overflow-add-s invariant-loop decreases-loop
 add-s c =
@@ -128,7 +128,7 @@ add-s c =
     let l = c.before.before.before.before.before.before.before.before.before.before.loop in
     let b = (sym c.before.before.before.begins-at.ensures ∙ not-false _ c.before.before.if3.false) in
     let inside = c.before.before.before.before.before.before.if1.false in
-    omega (arith, course-fits m.nodes w m.regions places m.region_count l.j l.s l.p l.i (omega arith) inside b l.invariant.2, s.requires.1, (node_fits m _ s.well-formed.0 0).total_fits)
+    omega (arith, course_fits m.nodes w m.regions places m.region_count l.j l.s l.p l.i (omega arith) inside b l.invariant.2, s.requires.1, (node_fits m _ s.well-formed.0 0).total_fits)
 
 add-j : tie.Need-overflow-add-j invariant-loop decreases-loop
 add-j c = search rules
@@ -165,7 +165,7 @@ sub-is-next c =
     let l = c.before.before.before.before.before.before.before.before.before.before.before.before.loop in
     let b = (sym c.before.before.before.before.before.begins-at.ensures ∙ not-false _ c.before.before.before.before.if3.false) in
     let inside = c.before.before.before.before.before.before.before.before.if1.false in
-    omega (arith, (course-length m.nodes w m.regions places m.region_count l.j l.s l.p l.i (omega arith) inside b).0)
+    omega (arith, (course_length m.nodes w m.regions places m.region_count l.j l.s l.p l.i (omega arith) inside b).0)
 
 is-next-requires : tie.Need-is-next-requires invariant-loop decreases-loop
 is-next-requires c κs = search rules
@@ -179,7 +179,7 @@ loop-less-2 c =
     let l = c.before.before.before.before.before.before.before.before.before.before.before.before.before.before.loop in
     let b = (sym c.before.before.before.before.before.before.before.begins-at.ensures ∙ not-false _ c.before.before.before.before.before.before.if3.false) in
     let inside = c.before.before.before.before.before.before.before.before.before.before.if1.false in
-    let in-child = course-in m.nodes w m.regions places m.region_count l.j l.s l.p l.i (omega arith) inside b c.before.before.before.node-number.result (sym c.before.is-next.ensures ∙ c.if4.true) l.invariant.2 in
+    let in-child = course_in m.nodes w m.regions places m.region_count l.j l.s l.p l.i (omega arith) inside b c.before.before.before.node-number.result (sym c.before.is-next.ensures ∙ c.if4.true) l.invariant.2 in
     let opened = (course_place m.nodes w m.regions places m.region_count (l.j + 1) (l.s + (region_at m.regions l.j).length) c.before.before.before.node-number.result 0 in-child).opened in
     omega (arith, not_deep m.nodes w c.before.before.before.node-number.result (open_used m.nodes c.before.before.before.node-number.result opened))
 
@@ -192,7 +192,7 @@ loop-again-2 c =
     let l = c.before.before.before.before.before.before.before.before.before.before.before.before.before.before.loop in
     let b = (sym c.before.before.before.before.before.before.before.begins-at.ensures ∙ not-false _ c.before.before.before.before.before.before.if3.false) in
     let inside = c.before.before.before.before.before.before.before.before.before.before.if1.false in
-    (omega arith, l.invariant.1, course-in m.nodes w m.regions places m.region_count l.j l.s l.p l.i (omega arith) inside b c.before.before.before.node-number.result (sym c.before.is-next.ensures ∙ c.if4.true) l.invariant.2)
+    (omega arith, l.invariant.1, course_in m.nodes w m.regions places m.region_count l.j l.s l.p l.i (omega arith) inside b c.before.before.before.node-number.result (sym c.before.is-next.ensures ∙ c.if4.true) l.invariant.2)
 
 returns-3 : tie.Need-returns-3 invariant-loop decreases-loop
 returns-3 c =
@@ -203,7 +203,7 @@ returns-3 c =
     let l = c.before.before.before.before.before.before.before.before.before.before.before.before.before.before.before.before.loop in
     let b = (sym c.before.before.before.before.before.before.before.before.before.begins-at.ensures ∙ not-false _ c.before.before.before.before.before.before.before.before.if3.false) in
     let inside = c.before.before.before.before.before.before.before.before.before.before.before.before.if1.false in
-    course-stuck m.nodes w m.regions places m.region_count l.j l.s l.p l.i (omega arith) inside b c.before.before.before.before.before.node-number.result c.before.before.before.before.before.node-number.ensures (sym c.before.before.before.is-next.ensures ∙ c.before.before.if4.false) c.if5.true l.invariant.2
+    course_stuck m.nodes w m.regions places m.region_count l.j l.s l.p l.i (omega arith) inside b c.before.before.before.before.before.node-number.result c.before.before.before.before.before.node-number.ensures (sym c.before.before.before.is-next.ensures ∙ c.before.before.if4.false) c.if5.true l.invariant.2
 
 loop-less-3 : tie.Need-loop-smaller-3 invariant-loop decreases-loop
 loop-less-3 c = omega arith
@@ -217,7 +217,7 @@ loop-again-3 c =
     let l = c.before.before.before.before.before.before.before.before.before.before.before.before.before.before.before.before.loop in
     let b = (sym c.before.before.before.before.before.before.before.before.before.begins-at.ensures ∙ not-false _ c.before.before.before.before.before.before.before.before.if3.false) in
     let inside = c.before.before.before.before.before.before.before.before.before.before.before.before.if1.false in
-    (omega arith, l.invariant.1, course-along m.nodes w m.regions places m.region_count l.j l.s l.p l.i (omega arith) inside b c.before.before.before.before.before.node-number.result c.before.before.before.before.before.node-number.ensures (sym c.before.before.before.is-next.ensures ∙ c.before.before.if4.false) c.if5.false l.invariant.2)
+    (omega arith, l.invariant.1, course_along m.nodes w m.regions places m.region_count l.j l.s l.p l.i (omega arith) inside b c.before.before.before.before.before.node-number.result c.before.before.before.before.before.node-number.ensures (sym c.before.before.before.is-next.ensures ∙ c.before.before.if4.false) c.if5.false l.invariant.2)
 
 ends-at-requires : tie.Need-ends-at-requires invariant-loop decreases-loop
 ends-at-requires c κs = search rules

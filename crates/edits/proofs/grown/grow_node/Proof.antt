@@ -1,4 +1,4 @@
-use Rattle.edits.proofs.Growing.{node_small, placed-raisable, published_fits, grown-model}
+use Rattle.edits.proofs.Growing.{node_small, placed_raisable, published_fits, grown_model}
 use native.Mathlib.Omega.{arith}
 use Rattle.edits.proofs.grown.grow_node.Statement.{statement}
 use Rattle.edits.proofs.grown.grow_node.Tie as tie
@@ -16,7 +16,7 @@ grow-regions-requires : tie.Need-grow-regions-requires
 grow-regions-requires c κs = c.requires
 
 raise-totals-requires : tie.Need-raise-totals-requires
-raise-totals-requires c κs = let s = c.before in placed-raisable s.args.t1 s.args.k s.args.count s.requires c.grow-regions.result c.grow-regions.result c.grow-regions.ensures
+raise-totals-requires c κs = let s = c.before in placed_raisable s.args.t1 s.args.k s.args.count s.requires c.grow-regions.result c.grow-regions.result c.grow-regions.ensures
 
 add-q : tie.Need-overflow-add-q
 add-q c = let s = c.before.before in omega (arith, published_fits s.args.t1 s.args.k s.args.count s.requires)
@@ -24,7 +24,7 @@ add-q c = let s = c.before.before in omega (arith, published_fits s.args.t1 s.ar
 returns : tie.Need-returns
 returns c =
     let s = c.before.before in
-    grown-model s.args.t1 s.args.k s.args.count s.requires c.before.grow-regions.result c.raise-totals.result c.before.grow-regions.ensures c.raise-totals.ensures
+    grown_model s.args.t1 s.args.k s.args.count s.requires c.before.grow-regions.result c.raise-totals.result c.before.grow-regions.ensures c.raise-totals.ensures
 
 pub grow-node-spec : {M : Type 1} → statement M
 grow-node-spec =

@@ -2,7 +2,7 @@ use mathlib.Core.Path.{sym, ap, ◌∙◌}
 use Rattle.model.specs.declared.RowNumber.{RowNumber}
 use Rattle.runs.specs.Search.{region_at}
 use Rattle.runs.specs.Laid.{live}
-use Rattle.edits.proofs.Growing.{sound_laid, sound_tiled, end-found, end_none}
+use Rattle.edits.proofs.Growing.{sound_laid, sound_tiled, end_found, end_none}
 use borrow.Author.Rules.{rules}
 use Rattle.edits.proofs.grown.place_after.Statement.{statement}
 use Rattle.edits.proofs.grown.place_after.Tie as tie
@@ -29,7 +29,7 @@ returns-2 : tie.Need-returns-2
 returns-2 c =
     let s = c.before.before.before.before.before in
     let e = ap (λ (x : RowNumber). region_at (live s.args.m) x.0) c.before.before.before.before.end_of_lem.ensures in
-    end-found s.args.m s.requires.0 s.args.k s.requires.1 _ (sym e ∙ sym c.before.before.before.find-region.ensures ∙ c.before.place.given.1)
+    end_found s.args.m s.requires.0 s.args.k s.requires.1 _ (sym e ∙ sym c.before.before.before.find-region.ensures ∙ c.before.place.given.1)
 
 pub place-after-spec : {M : Type 1} → statement M
 place-after-spec =

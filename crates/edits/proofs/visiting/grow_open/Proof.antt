@@ -1,4 +1,4 @@
-use Rattle.edits.proofs.Visits.{used_place, same_settles, visit-growable}
+use Rattle.edits.proofs.Visits.{used_place, same_settles, visit_growable}
 use native.Mathlib.Omega.{arith}
 use Rattle.edits.proofs.visiting.grow_open.Statement.{statement}
 use Rattle.edits.proofs.visiting.grow_open.Tie as tie
@@ -13,7 +13,7 @@ returns : tie.Need-returns
 returns c = let s = c.before in same_settles s.args.t1 s.requires.0.sound s.args.k s.args.count c.if1.true
 
 grow-node-requires : tie.Need-grow-node-requires
-grow-node-requires c κs = let s = c.before in visit-growable s.args.t1 s.args.k s.args.count s.requires.0 s.requires.1 c.if1.false
+grow-node-requires c κs = let s = c.before in visit_growable s.args.t1 s.args.k s.args.count s.requires.0 s.requires.1 c.if1.false
 
 returns-2 : tie.Need-returns-2
 returns-2 c = c.grow-node.ensures

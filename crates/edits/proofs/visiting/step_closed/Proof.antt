@@ -1,4 +1,4 @@
-use Rattle.edits.proofs.Visits.{used_place, still-closed, freed}
+use Rattle.edits.proofs.Visits.{used_place, still_closed, freed}
 use native.Mathlib.Omega.{arith}
 use Rattle.edits.proofs.visiting.step_closed.Statement.{statement}
 use Rattle.edits.proofs.visiting.step_closed.Tie as tie
@@ -19,7 +19,7 @@ element-set-from-q : tie.Need-element-set-from-q
 element-set-from-q c = let s = c.before.before.before in used_place s.args.t1 s.requires.0.sound s.args.k s.requires.0.live
 
 returns : tie.Need-returns
-returns c = let s = c.before.before.before in still-closed s.args.t1 s.args.k s.args.count s.requires.0 s.requires.1 s.args.ongoing c.before.before.if1.true c.counted.result c.counted.ensures
+returns c = let s = c.before.before.before in still_closed s.args.t1 s.args.k s.args.count s.requires.0 s.requires.1 s.args.ongoing c.before.before.if1.true c.counted.result c.counted.ensures
 
 mul-t21 : tie.Need-overflow-mul-t21
 mul-t21 c = let s = c.before in omega (arith, used_place s.args.t1 s.requires.0.sound s.args.k s.requires.0.live)

@@ -91,7 +91,7 @@ returns-4 c =
     let h = sym f.find-region.ensures ∙ p.before.before.place.given.1 in
     close_answer s.args.m s.args.row.0 p.parent_of.result k.result i.result p.parent_of.ensures i.ensures k.ensures e
     (found_inside s.args.m (sound_of s.args.m e) s.args.row.0 _ h)
-    c.close-all.result c.close-all.ensures
+    c.close_all_lem.result c.close_all_lem.ensures
 
 pub close_spec : {M : Type 1} → statement M
 close_spec =

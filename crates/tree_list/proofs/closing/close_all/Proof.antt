@@ -3,7 +3,7 @@ use Rattle.model.specs.Places.{depth}
 use Rattle.model.specs.Close.{closing_order}
 use Rattle.steps.proofs.Settling.{sound_of}
 use Rattle.edits.proofs.Closing.{closable_used}
-use Rattle.tree_list.proofs.AnswerClose.{Closed, closed_start, turn-closable, turn_small, turn-asks, turn-closed, turns-done}
+use Rattle.tree_list.proofs.AnswerClose.{Closed, closed_start, turn_closable, turn_small, turn_asks, turn_closed, turns_done}
 use borrow.Author.Rules.{rules}
 use native.Mathlib.Omega.{arith}
 use Rattle.tree_list.proofs.closing.close_all.Statement.{statement}
@@ -37,7 +37,7 @@ row-of-requires c κs =
     let l = c.before.before.loop in
     let o = c.before.before.before.before.closing-order in
     let s = c.before.before.before.before.before in
-    let k = turn-closable s.args.t1 s.requires.0 s.args.node s.requires.1.0 s.requires.1.1 o.result o.ensures l.i l.q l.log l.invariant c.before.loop-test.true in
+    let k = turn_closable s.args.t1 s.requires.0 s.args.node s.requires.1.0 s.requires.1.1 o.result o.ensures l.i l.q l.log l.invariant c.before.loop-test.true in
     (l.invariant.whole, (k.above, closable_used l.q l.invariant.whole _ k))
 
 mul-log-closing : tie.Need-overflow-mul-log-closing invariant-loop decreases-loop
@@ -59,14 +59,14 @@ log-closing-requires c κs =
     let l = c.before.before.before.loop in
     let o = c.before.before.before.before.before.closing-order in
     let s = c.before.before.before.before.before.before in
-    turn-asks s.args.t1 s.requires.0 s.args.node s.requires.1.0 s.requires.1.1 o.result o.ensures l.i l.q l.log l.invariant c.before.before.loop-test.true c.row_of_lem.result c.row_of_lem.ensures
+    turn_asks s.args.t1 s.requires.0 s.args.node s.requires.1.0 s.requires.1.1 o.result o.ensures l.i l.q l.log l.invariant c.before.before.loop-test.true c.row_of_lem.result c.row_of_lem.ensures
 
 close-node-requires : tie.Need-close-node-requires invariant-loop decreases-loop
 close-node-requires c κs =
     let l = c.before.before.before.before.loop in
     let o = c.before.before.before.before.before.before.closing-order in
     let s = c.before.before.before.before.before.before.before in
-    (l.invariant.whole, turn-closable s.args.t1 s.requires.0 s.args.node s.requires.1.0 s.requires.1.1 o.result o.ensures l.i l.q l.log l.invariant c.before.before.before.loop-test.true)
+    (l.invariant.whole, turn_closable s.args.t1 s.requires.0 s.args.node s.requires.1.0 s.requires.1.1 o.result o.ensures l.i l.q l.log l.invariant c.before.before.before.loop-test.true)
 
 add-i : tie.Need-overflow-add-i invariant-loop decreases-loop
 add-i c = search rules
@@ -79,7 +79,7 @@ loop-again c =
     let l = c.before.before.before.before.before.loop in
     let o = c.before.before.before.before.before.before.before.closing-order in
     let s = c.before.before.before.before.before.before.before.before in
-    turn-closed s.args.t1 s.requires.0 s.args.node s.requires.1.0 s.requires.1.1 o.result o.ensures l.i l.q l.log l.invariant c.before.before.before.before.loop-test.true
+    turn_closed s.args.t1 s.requires.0 s.args.node s.requires.1.0 s.requires.1.1 o.result o.ensures l.i l.q l.log l.invariant c.before.before.before.before.loop-test.true
     c.before.before.row_of_lem.result c.close-node.result c.before.log-closing.result c.before.before.row_of_lem.ensures c.close-node.ensures c.before.log-closing.ensures
 
 returns : tie.Need-returns invariant-loop decreases-loop
@@ -87,7 +87,7 @@ returns c =
     let l = c.before.loop in
     let o = c.before.before.before.closing-order in
     let s = c.before.before.before.before in
-    turns-done s.args.t1 s.requires.0 s.args.node s.requires.1.0 s.requires.1.1 o.result o.ensures l.i l.q l.log l.invariant c.loop-test.false
+    turns_done s.args.t1 s.requires.0 s.args.node s.requires.1.0 s.requires.1.1 o.result o.ensures l.i l.q l.log l.invariant c.loop-test.false
 
 pub close-all-spec : {M : Type 1} → statement M
 close-all-spec =

@@ -4,7 +4,7 @@ use Rattle.model.specs.Nodes.{no_node}
 use Rattle.steps.proofs.Settling.{sound_of}
 use Rattle.tree_list.proofs.SoundRows.{row_there, child_small}
 use Rattle.steps.proofs.SoundRegions.{sound_laid, sound_tiled, row_none, found_inside}
-use Rattle.tree_list.proofs.AnswerFetch.{fetch_unsound, fetch_unreadable, fetch_past, fetch_row_lem, fetch_answer, row_shown, parent-small, node-parent, node-followable}
+use Rattle.tree_list.proofs.AnswerFetch.{fetch_unsound, fetch_unreadable, fetch_past, fetch_row_lem, fetch_answer, row_shown, parent_small, node_parent, node_followable}
 use borrow.Author.Rules.{rules}
 use Rattle.tree_list.proofs.fetching.fetch.Statement.{statement}
 use Rattle.tree_list.proofs.fetching.fetch.Tie as tie
@@ -63,7 +63,7 @@ node-or-fresh-requires c κs =
     let e = (sym c.before.before.before.before.before.before.before.before.before.before.is_sound_lem.ensures ∙ not-false _ c.before.before.before.before.before.before.before.before.before.if1.false) in
     let h = sym c.before.before.before.before.before.before.find-region.ensures ∙ c.before.before.before.before.place.given.1 in
     let shows = row_shown s.args.table.now s.args.m s.args.row.0 c.before.before.parent_of.result c.before.index_of.result c.child-of.result no_node c.before.before.parent_of.ensures c.before.index_of.ensures c.child-of.ensures (row_there s.args.m e s.args.row.0 _ h) in (
-      parent-small s.args.table.now s.args.m s.args.row.0 c.before.before.parent_of.result c.before.index_of.result c.child-of.result no_node c.before.before.parent_of.ensures c.before.index_of.ensures c.child-of.ensures e shows,
+      parent_small s.args.table.now s.args.m s.args.row.0 c.before.before.parent_of.result c.before.index_of.result c.child-of.result no_node c.before.before.parent_of.ensures c.before.index_of.ensures c.child-of.ensures e shows,
       rw c.child-of.ensures (child_small s.args.m e _ _),
     )
 
@@ -77,8 +77,8 @@ fetch-node-requires c κs =
     let k = c.before.child-of in
     let n = c.node-or-fresh in
     let shows = row_shown s.args.table.now s.args.m s.args.row.0 p.result i.result k.result n.result p.ensures i.ensures k.ensures (row_there s.args.m e s.args.row.0 _ h) in (
-      node-parent s.args.table.now s.args.m s.args.row.0 p.result i.result k.result n.result p.ensures i.ensures k.ensures e shows n.ensures,
-      node-followable s.args.table.now s.args.m s.args.row.0 p.result i.result k.result n.result p.ensures i.ensures k.ensures e shows n.ensures,
+      node_parent s.args.table.now s.args.m s.args.row.0 p.result i.result k.result n.result p.ensures i.ensures k.ensures e shows n.ensures,
+      node_followable s.args.table.now s.args.m s.args.row.0 p.result i.result k.result n.result p.ensures i.ensures k.ensures e shows n.ensures,
     )
 
 returns-4 : tie.Need-returns-4

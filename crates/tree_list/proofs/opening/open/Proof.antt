@@ -4,7 +4,7 @@ use Rattle.model.specs.Nodes.{no_node}
 use Rattle.steps.proofs.Settling.{sound_of}
 use Rattle.tree_list.proofs.SoundRows.{row_there, child_small}
 use Rattle.steps.proofs.SoundRegions.{sound_laid, sound_tiled, row_none, found_inside}
-use Rattle.tree_list.proofs.AnswerFetch.{row_shown, parent-small}
+use Rattle.tree_list.proofs.AnswerFetch.{row_shown, parent_small}
 use Rattle.tree_list.proofs.AnswerOpen.{open_unsound, open_unreadable, open_past, open_row, open_answer, can_open}
 use borrow.Author.Rules.{rules}
 use Rattle.tree_list.proofs.opening.open.Statement.{statement}
@@ -64,7 +64,7 @@ node-or-fresh-requires c κs =
     let e = (sym c.before.before.before.before.before.before.before.before.before.before.is_sound_lem.ensures ∙ not-false _ c.before.before.before.before.before.before.before.before.before.if1.false) in
     let h = sym c.before.before.before.before.before.before.find-region.ensures ∙ c.before.before.before.before.place.given.1 in
     let shows = row_shown s.args.table.now s.args.m s.args.row.0 c.before.before.parent_of.result c.before.index_of.result c.child-of.result no_node c.before.before.parent_of.ensures c.before.index_of.ensures c.child-of.ensures (row_there s.args.m e s.args.row.0 _ h) in (
-      parent-small s.args.table.now s.args.m s.args.row.0 c.before.before.parent_of.result c.before.index_of.result c.child-of.result no_node c.before.before.parent_of.ensures c.before.index_of.ensures c.child-of.ensures e shows,
+      parent_small s.args.table.now s.args.m s.args.row.0 c.before.before.parent_of.result c.before.index_of.result c.child-of.result no_node c.before.before.parent_of.ensures c.before.index_of.ensures c.child-of.ensures e shows,
       rw c.child-of.ensures (child_small s.args.m e _ _),
     )
 

@@ -1,5 +1,5 @@
 use mathlib.Core.Path.{sym, ◌∙◌}
-use Rattle.tree_list.proofs.AnswerOpen.{open_already, open-childless, open_full, open-over, open-asks, open_next, open_done, published_limit}
+use Rattle.tree_list.proofs.AnswerOpen.{open_already, open_childless, open_full, open_over, open_asks, open_next, open_done, published_limit}
 use borrow.Author.Rules.{rules}
 use Rattle.tree_list.proofs.opening.open_row.Statement.{statement}
 use Rattle.tree_list.proofs.opening.open_row.Tie as tie
@@ -18,7 +18,7 @@ no-change-requires-2 c κs = search rules
 returns-2 : tie.Need-returns-2
 returns-2 c =
     let s = c.before.before.before.before in
-    c.no-change2.ensures ∙ sym (open-childless s.args.m s.args.row.0 s.args.n _ c.before.before.before.if1.false c.before.if2.true)
+    c.no-change2.ensures ∙ sym (open_childless s.args.m s.args.row.0 s.args.n _ c.before.before.before.if1.false c.before.if2.true)
 
 number-or-free-requires : tie.Need-number-or-free-requires
 number-or-free-requires c κs = search rules
@@ -48,7 +48,7 @@ returns-4 c =
     let z = e.before.before in
     let s = z.before.before.before in
     c.no-change4.ensures
-    ∙ sym (open-over s.args.m s.args.row.0 s.args.n _ z.before.before.if1.false z.if2.false j.result j.ensures e.if3.false s.requires.0 c.before.if4.true)
+    ∙ sym (open_over s.args.m s.args.row.0 s.args.n _ z.before.before.if1.false z.if2.false j.result j.ensures e.if3.false s.requires.0 c.before.if4.true)
 
 open-node-requires : tie.Need-open-node-requires
 open-node-requires c κs =
@@ -56,7 +56,7 @@ open-node-requires c κs =
     let j = e.before.number-or-free in
     let z = e.before.before in
     let s = z.before.before.before in
-    open-asks s.args.m s.args.row.0 s.args.n _ z.before.before.if1.false z.if2.false j.result j.ensures e.if3.false s.args.place s.requires.0 s.requires.1 c.if4.false
+    open_asks s.args.m s.args.row.0 s.args.n _ z.before.before.if1.false z.if2.false j.result j.ensures e.if3.false s.args.place s.requires.0 s.requires.1 c.if4.false
 
 grown-below-requires : tie.Need-grown-below-requires
 grown-below-requires c κs =

@@ -6,7 +6,7 @@ use Rattle.model.specs.Rows.{row_total}
 use Rattle.model.specs.Update.{visits}
 use Rattle.steps.specs.Growth.{growth}
 use Rattle.tree_list.proofs.AnswerOpen.{published_limit}
-use Rattle.tree_list.proofs.UpdateTests.{visited_small, sum_start, sum_next, limit-passed, limit-kept}
+use Rattle.tree_list.proofs.UpdateTests.{visited_small, sum_start, sum_next, limit_passed, limit_kept}
 use borrow.Author.Rules.{rules}
 use native.Mathlib.Omega.{arith}
 use Rattle.tree_list.proofs.updating.passes_limit.Statement.{statement}
@@ -55,7 +55,7 @@ returns c =
     let s = c.before.before.before.before.before.before.before in
     let l = c.before.before.before.before.before.loop in
     let n = c.before.step-rows in
-    limit-passed s.args.table.now s.args.t2 s.requires.1.0 s.args.t3 s.requires.1.1.0 l.i s.requires.1.1.1 c.before.before.before.before.loop-test.true l.sum l.invariant.1 l.invariant.0 n.result n.ensures c.if1.true
+    limit_passed s.args.table.now s.args.t2 s.requires.1.0 s.args.t3 s.requires.1.1.0 l.i s.requires.1.1.1 c.before.before.before.before.loop-test.true l.sum l.invariant.1 l.invariant.0 n.result n.ensures c.if1.true
 
 add-sum : tie.Need-overflow-add-sum invariant-loop decreases-loop
 add-sum c = search rules
@@ -77,7 +77,7 @@ returns-2 : tie.Need-returns-2 invariant-loop decreases-loop
 returns-2 c =
     let s = c.before.before.before in
     let l = c.before.loop in
-    limit-kept s.args.table.now s.args.t2 s.requires.1.0 s.args.t3 s.requires.1.1.0 l.i s.requires.1.1.1 c.loop-test.false l.sum l.invariant.1 l.invariant.0
+    limit_kept s.args.table.now s.args.t2 s.requires.1.0 s.args.t3 s.requires.1.1.0 l.i s.requires.1.1.1 c.loop-test.false l.sum l.invariant.1 l.invariant.0
 
 pub passes-limit-spec : {M : Type 1} → statement M
 passes-limit-spec =

@@ -1,5 +1,5 @@
 use mathlib.Core.Path.{sym, ◌∙◌}
-use Rattle.tree_list.proofs.UpdateTests.{rows-text, rows_grow}
+use Rattle.tree_list.proofs.UpdateTests.{rows_text, rows_grow}
 use borrow.Author.Rules.{rules}
 use Rattle.tree_list.proofs.updating.step_rows.Statement.{statement}
 use Rattle.tree_list.proofs.updating.step_rows.Tie as tie
@@ -7,7 +7,7 @@ use Rattle.tree_list.proofs.updating.step_rows.Tie as tie
 returns : tie.Need-returns
 returns c =
     let s = c.before.before in
-    sym (rows-text s.args.table.now s.args.n s.args.code c.if1.true)
+    sym (rows_text s.args.table.now s.args.n s.args.code c.if1.true)
 
 added-rows-requires : tie.Need-added-rows-requires
 added-rows-requires c κs = search rules

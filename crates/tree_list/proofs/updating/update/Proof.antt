@@ -1,7 +1,7 @@
 use mathlib.Core.Path.{sym, ◌∙◌}
 use borrow.Author.Tests.{not-true, not-false}
 use Rattle.steps.proofs.Settling.{sound_of}
-use Rattle.tree_list.proofs.AnswerUpdate.{update_unsound, update-unreadable, update-back, update-limit, update-done, update_fits}
+use Rattle.tree_list.proofs.AnswerUpdate.{update_unsound, update_unreadable, update_back, update_limit, update_done, update_fits}
 use borrow.Author.Rules.{rules}
 use Rattle.tree_list.proofs.updating.update.Statement.{statement}
 use Rattle.tree_list.proofs.updating.update.Tie as tie
@@ -27,7 +27,7 @@ returns-2 : tie.Need-returns-2
 returns-2 c =
     let s = c.before.before.before.before.before.before in
     let e = sym c.before.before.before.before.is_sound_lem.ensures ∙ not-false _ c.before.before.before.if1.false in
-    c.no-update2.ensures ∙ sym (update-unreadable s.args.table.now s.args.m e (sym c.before.before.is-readable.ensures ∙ not-true _ c.before.if2.true))
+    c.no-update2.ensures ∙ sym (update_unreadable s.args.table.now s.args.m e (sym c.before.before.is-readable.ensures ∙ not-true _ c.before.if2.true))
 
 visits-requires : tie.Need-visits-requires
 visits-requires c κs =
@@ -48,7 +48,7 @@ returns-3 c =
     let s = c.before.before.before.before.before.before.before.before.before in
     let e = sym c.before.before.before.before.before.before.before.is_sound_lem.ensures ∙ not-false _ c.before.before.before.before.before.before.if1.false in
     let f = sym c.before.before.before.before.before.is-readable.ensures ∙ not-false _ c.before.before.before.before.if2.false in
-    c.no-update3.ensures ∙ sym (update-back s.args.table.now s.args.m e f (sym c.before.before.any-went-back.ensures ∙ c.before.if3.true))
+    c.no-update3.ensures ∙ sym (update_back s.args.table.now s.args.m e f (sym c.before.before.any-went-back.ensures ∙ c.before.if3.true))
 
 passes-limit-requires : tie.Need-passes-limit-requires
 passes-limit-requires c κs =
@@ -65,7 +65,7 @@ returns-4 c =
     let e = sym c.before.before.before.before.before.before.before.before.before.is_sound_lem.ensures ∙ not-false _ c.before.before.before.before.before.before.before.before.if1.false in
     let f = sym c.before.before.before.before.before.before.before.is-readable.ensures ∙ not-false _ c.before.before.before.before.before.before.if2.false in
     let g = sym c.before.before.before.before.any-went-back.ensures ∙ c.before.before.before.if3.false in
-    c.no-update4.ensures ∙ sym (update-limit s.args.table.now s.args.m e f g (sym c.before.before.passes-limit.ensures ∙ c.before.if4.true))
+    c.no-update4.ensures ∙ sym (update_limit s.args.table.now s.args.m e f g (sym c.before.before.passes-limit.ensures ∙ c.before.if4.true))
 
 run-visits-requires : tie.Need-run-visits-requires
 run-visits-requires c κs =
@@ -80,7 +80,7 @@ returns-5 c =
     let e = sym c.before.before.before.before.before.before.before.before.before.is_sound_lem.ensures ∙ not-false _ c.before.before.before.before.before.before.before.before.if1.false in
     let f = sym c.before.before.before.before.before.before.before.is-readable.ensures ∙ not-false _ c.before.before.before.before.before.before.if2.false in
     let g = sym c.before.before.before.before.any-went-back.ensures ∙ c.before.before.before.if3.false in
-    c.run-visits.ensures ∙ sym (update-done s.args.table.now s.args.m e f g)
+    c.run-visits.ensures ∙ sym (update_done s.args.table.now s.args.m e f g)
 
 pub update-spec : {M : Type 1} → statement M
 update-spec =

@@ -1,6 +1,6 @@
 use Prim.Native.Nat.{◌-◌}
 use Rattle.steps.proofs.Settling.{sound_of}
-use Rattle.tree_list.proofs.StepsInOrder.{Underway, run_starts, run-ready, run-goes, run_ends}
+use Rattle.tree_list.proofs.StepsInOrder.{Underway, run_starts, run_ready, run_goes, run_ends}
 use borrow.Author.Rules.{rules}
 use native.Mathlib.Omega.{arith}
 use Rattle.tree_list.proofs.visits.run_visits.Statement.{statement}
@@ -42,7 +42,7 @@ visit-step-requires c κs =
     let S = sound_of s.args.m s.requires.0 in
     let o = c.before.before.before.before.visits in
     let l = c.before.before.loop in
-    run-ready s.args.table.now s.args.m S o.result o.ensures l.p l.i l.invariant c.before.loop-test.true s.requires.1.1.1
+    run_ready s.args.table.now s.args.m S o.result o.ensures l.p l.i l.invariant c.before.loop-test.true s.requires.1.1.1
 
 add-i : tie.Need-overflow-add-i invariant-loop decreases-loop
 add-i c = search rules
@@ -56,7 +56,7 @@ loop-again c =
     let S = sound_of s.args.m s.requires.0 in
     let o = c.before.before.before.before.before.visits in
     let l = c.before.before.before.loop in
-    run-goes s.args.table.now s.args.m S o.result o.ensures l.p l.i l.invariant c.before.before.loop-test.true c.visit_step_lem.result c.visit_step_lem.ensures
+    run_goes s.args.table.now s.args.m S o.result o.ensures l.p l.i l.invariant c.before.before.loop-test.true c.visit_step_lem.result c.visit_step_lem.ensures
 
 node-at-requires : tie.Need-node-at-requires invariant-loop decreases-loop
 node-at-requires c κs = search rules

@@ -1,4 +1,4 @@
-use Rattle.tree_list.proofs.StepsInPlace.{text_root, text-more, text_same, text-new, entry_listed, node_small}
+use Rattle.tree_list.proofs.StepsInPlace.{text_root, text_more, text_same, text_new, entry_listed, node_small}
 use native.Mathlib.Omega.{arith}
 use Rattle.tree_list.proofs.visits.text_step.Statement.{statement}
 use Rattle.tree_list.proofs.visits.text_step.Tie as tie
@@ -30,7 +30,7 @@ returns-2 c =
     let s = c.before.before.before.before.before.before.before.before in
     let n = c.before.before.before.before.before.Node-at in
     let k = c.before.before.before.before.item_count in
-    λ w H. text-more s.args.table.now s.args.p w H s.args.k c.before.before.before.before.before.before.if1.false s.requires.room n.result n.ensures k.result k.ensures c.before.before.if2.true c.log-text.result c.log-text.ensures
+    λ w H. text_more s.args.table.now s.args.p w H s.args.k c.before.before.before.before.before.before.if1.false s.requires.room n.result n.ensures k.result k.ensures c.before.before.if2.true c.log-text.result c.log-text.ensures
 
 item-version-requires : tie.Need-item-version-requires
 item-version-requires c κs =
@@ -64,7 +64,7 @@ returns-4 c =
     let n = c.before.before.before.before.before.before.before.before.Node-at in
     let k = c.before.before.before.before.before.before.before.item_count in
     let v = c.before.before.before.before.item-version in
-    λ w H. text-new s.args.table.now s.args.p w H s.args.k c.before.before.before.before.before.before.before.before.before.if1.false s.requires.room n.result n.ensures k.result k.ensures c.before.before.before.before.before.if2.false v.result v.ensures c.before.before.if3.false c.set-version.result c.before.log-text2.result c.set-version.ensures c.before.log-text2.ensures
+    λ w H. text_new s.args.table.now s.args.p w H s.args.k c.before.before.before.before.before.before.before.before.before.if1.false s.requires.room n.result n.ensures k.result k.ensures c.before.before.before.before.before.if2.false v.result v.ensures c.before.before.if3.false c.set-version.result c.before.log-text2.result c.set-version.ensures c.before.log-text2.ensures
 
 pub text-step-spec : {M : Type 1} → statement M
 text-step-spec =
