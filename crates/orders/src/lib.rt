@@ -15,7 +15,7 @@ ghost use Rattle.orders.specs.Orders.{codes, visit_codes, walk_codes, Written, H
 use model::{Model, Node};
 
 // The steps of a closing or an updating, in order: the first `len` of `steps`.
-#[derive(Drop)]
+#[derive(Clone, Copy)]
 pub struct Order {
     pub steps: [u64; 512],
     pub len: u64,
