@@ -1,4 +1,3 @@
-use Rattle.std.proofs.Common.{arith}
 use Rattle.edits.proofs.Closing.{totals_ask, published_asks, closed_in_place}
 use Rattle.edits.proofs.closed.close_node.Goals as goal
 
