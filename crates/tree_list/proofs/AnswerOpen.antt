@@ -47,9 +47,9 @@ module _ (t : List ℕ) (m : Model) (r : ℕ) where
   unfolding answer_open
   open_past e f h = rw (e, f, le-leb (row_total m.nodes) r h)
 
-  pub open_row : sound m ≡ true → readable t ≡ true → r < row_total m.nodes → answer_open t m r ≡ open_row t m r (row_at m.nodes r)
+  pub open_row_lem : sound m ≡ true → readable t ≡ true → r < row_total m.nodes → answer_open t m r ≡ open_row t m r (row_at m.nodes r)
   unfolding answer_open
-  open_row e f h = rw (e, f, lt-leb (row_total m.nodes) r h)
+  open_row_lem e f h = rw (e, f, lt-leb (row_total m.nodes) r h)
 
 -- a row with node n, by what is known of it and of its number j
 module _ (m : Model) (r : ℕ) (n : Node) (j : ℕ) where
