@@ -1,4 +1,4 @@
-use Rattle.std.proofs.Common.{sym, ◌∙◌, ◌^◌}
+use Rattle.std.proofs.Common.{sym, ◌∙◌, ◌^◌, arith}
 use Rattle.model.proofs.Arrays.{nodes_long, node_fits}
 use Rattle.sound.proofs.Whole.{twins_bad, places_bad, totals_bad, formed, all_rows, regions_bad, count_bad, published_bad, limit_left}
 use Rattle.sound.proofs.is_sound.Goals as goal
@@ -27,7 +27,7 @@ returns-then-m-ge512 c =
     let size = nodes_long m _ c.well_formed.0 in
     let totals = (sym c.totals_ok.ensures ∙ c.if-not-totals_ok.false) in
     let t = formed m size (sym c.has_twins.ensures ∙ c.if-has_twins.false) (sym c.places_ok.ensures ∙ c.if-not-places_ok.false) totals (2 ^ 64) (λ k. (node_fits m _ c.well_formed.0 k).total_fits) in
-    count_bad m size t totals c.if-m-ge512.true
+    count_bad m size t totals (omega arith)
 
 pub regions_ok-requires : goal.regions_ok-requires
 regions_ok-requires c =
@@ -35,7 +35,7 @@ regions_ok-requires c =
     let size = nodes_long m _ c.well_formed.0 in
     let totals = (sym c.totals_ok.ensures ∙ c.if-not-totals_ok.false) in
     let t = formed m size (sym c.has_twins.ensures ∙ c.if-has_twins.false) (sym c.places_ok.ensures ∙ c.if-not-places_ok.false) totals (2 ^ 64) (λ k. (node_fits m _ c.well_formed.0 k).total_fits) in
-    (t, all_rows m size t totals, c.if-m-ge512.false)
+    (t, all_rows m size t totals, omega arith)
 
 pub returns-then-not-regions_ok : goal.returns-then-not-regions_ok
 returns-then-not-regions_ok c =

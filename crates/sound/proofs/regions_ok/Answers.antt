@@ -119,7 +119,7 @@ returns-then-end-n c =
     let places = regions_long m _ c.well_formed.0 in
     let l = c.loop-j in
     let b = (sym c.begins_at.ensures ∙ c.if-not-begins_at.false) in
-    course_stuck m.nodes w m.regions places m.region_count l.j l.s l.p l.i (omega arith) c.if-n-i.false b c.node_number-c.result c.node_number-c.ensures (sym c.is_next.ensures ∙ c.if-is_next.false) c.if-end-n.true l.invariant.2
+    course_stuck m.nodes w m.regions places m.region_count l.j l.s l.p l.i (omega arith) c.if-n-i.false b c.node_number-c.result c.node_number-c.ensures (sym c.is_next.ensures ∙ c.if-is_next.false) (λ e. omega arith) l.invariant.2
 
 pub loop-j-preserved : goal.loop-j-preserved
 loop-j-preserved c =
@@ -128,7 +128,7 @@ loop-j-preserved c =
     let places = regions_long m _ c.well_formed.0 in
     let l = c.loop-j in
     let b = (sym c.begins_at.ensures ∙ c.if-not-begins_at.false) in
-    (omega arith, l.invariant.1, course_along m.nodes w m.regions places m.region_count l.j l.s l.p l.i (omega arith) c.if-n-i.false b c.node_number-c.result c.node_number-c.ensures (sym c.is_next.ensures ∙ c.if-is_next.false) c.if-end-n.false l.invariant.2)
+    (omega arith, l.invariant.1, course_along m.nodes w m.regions places m.region_count l.j l.s l.p l.i (omega arith) c.if-n-i.false b c.node_number-c.result c.node_number-c.ensures (sym c.is_next.ensures ∙ c.if-is_next.false) (omega arith) l.invariant.2)
 
 pub ends_at-requires : goal.ends_at-requires
 ends_at-requires c = omega arith
