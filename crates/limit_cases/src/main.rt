@@ -4,38 +4,40 @@
 
 use model::{Log, Model, RowNumber};
 use printing::{number, text};
+use std::io;
 
 // A model of each table: of one that is refused it is of zeros, and refused with 1.
-fn show_new(table: &[u64]) {
+fn show_new(rt: &impl Print, table: &[u64]) -> io::Result<()> {
     let answer = tree_list::new(table);
     let count = tree_list::count(answer.model);
-    number(b"new on a table of ", table.len() as u64);
-    number(b" words: ", answer.refusal);
-    number(b", count: ", count.refusal);
-    number(b" ", count.count);
-    text(b"\n");
+    number(rt, b"new on a table of ", table.len() as u64)?;
+    number(rt, b" words: ", answer.refusal)?;
+    number(rt, b", count: ", count.refusal)?;
+    number(rt, b" ", count.count)?;
+    text(rt, b"\n")?;
+    Ok(())
 }
 
 fn empty_model() -> Model {
     tree_list::new(&[0, 0, 0, 0, 0]).model
 }
 
-fn updated(table: &[u64], m: Model) -> Model {
+fn updated(rt: &impl Print, table: &[u64], m: Model) -> io::Result<Model> {
     let answer = tree_list::update(table, m);
-    number(b"update: ", answer.refusal);
-    number(b", total ", answer.model.published);
-    number(b", records ", answer.log.len);
-    text(b"\n");
-    answer.model
+    number(rt, b"update: ", answer.refusal)?;
+    number(rt, b", total ", answer.model.published)?;
+    number(rt, b", records ", answer.log.len)?;
+    text(rt, b"\n")?;
+    Ok(answer.model)
 }
 
-fn opened(table: &[u64], m: Model, row: u64) -> Model {
+fn opened(rt: &impl Print, table: &[u64], m: Model, row: u64) -> io::Result<Model> {
     let answer = tree_list::open(table, m, RowNumber(row));
-    number(b"open row ", row);
-    number(b": ", answer.refusal);
-    number(b", total ", answer.model.published);
-    text(b"\n");
-    answer.model
+    number(rt, b"open row ", row)?;
+    number(rt, b": ", answer.refusal)?;
+    number(rt, b", total ", answer.model.published)?;
+    text(rt, b"\n")?;
+    Ok(answer.model)
 }
 
 // Entry 0 with 300 children, all of them listed and ongoing.
@@ -61,43 +63,45 @@ fn follow_rows(table: &[u64], m: Model) -> Model {
     q
 }
 
-fn fetched(table: &[u64], m: Model, row: u64) -> Model {
+fn fetched(rt: &impl Print, table: &[u64], m: Model, row: u64) -> io::Result<Model> {
     let answer = tree_list::fetch(table, m, RowNumber(row));
-    number(b"fetch row ", row);
-    number(b": ", answer.refusal);
-    number(b", node ", answer.row.node);
-    text(b"\n");
-    answer.model
+    number(rt, b"fetch row ", row)?;
+    number(rt, b": ", answer.refusal)?;
+    number(rt, b", node ", answer.row.node)?;
+    text(rt, b"\n")?;
+    Ok(answer.model)
 }
 
-fn released(m: Model, row: u64) -> Model {
+fn released(rt: &impl Print, m: Model, row: u64) -> io::Result<Model> {
     let answer = tree_list::release(m, RowNumber(row));
-    number(b"release row ", row);
-    number(b": ", answer.refusal);
-    text(b"\n");
-    answer.model
+    number(rt, b"release row ", row)?;
+    number(rt, b": ", answer.refusal)?;
+    text(rt, b"\n")?;
+    Ok(answer.model)
 }
 
 // The 255th followed row is taken, the next gives 6, and after one release it is taken.
-fn followed_rows(table: &[u64]) {
-    text(b"254 of 300 ongoing rows are followed\n");
-    let m = follow_rows(table, updated(table, empty_model()));
-    let last = fetched(table, m, 254);
-    let full = fetched(table, last, 255);
-    let freed = released(full, 7);
-    let taken = fetched(table, freed, 255);
-    fetched(table, taken, 300);
+fn followed_rows(rt: &impl Print, table: &[u64]) -> io::Result<()> {
+    text(rt, b"254 of 300 ongoing rows are followed\n")?;
+    let m = follow_rows(table, updated(rt, table, empty_model())?);
+    let last = fetched(rt, table, m, 254)?;
+    let full = fetched(rt, table, last, 255)?;
+    let freed = released(rt, full, 7)?;
+    let taken = fetched(rt, table, freed, 255)?;
+    fetched(rt, table, taken, 300)?;
+    Ok(())
 }
 
 // A capture of 4,294,967,295 updates, and one more gives 7. With 4,294,967,294 rows, a row with 1 child opens, one with 2 gives 7.
-fn most_rows() {
-    text(b"as many rows as there can be\n");
-    let most = updated(&[0, 0, 4294967295, 0, 0], empty_model());
-    updated(&[0, 0, 4294967296, 0, 0], most);
+fn most_rows(rt: &impl Print) -> io::Result<()> {
+    text(rt, b"as many rows as there can be\n")?;
+    let most = updated(rt, &[0, 0, 4294967295, 0, 0], empty_model())?;
+    updated(rt, &[0, 0, 4294967296, 0, 0], most)?;
     let table: [u64; 15] = [0, 0, 4294967294, 0, 0, 0, 0, 1, 1, 0, 0, 1, 2, 1, 0];
-    let nearly = updated(&table, empty_model());
-    opened(&table, nearly, 1);
-    opened(&table, nearly, 0);
+    let nearly = updated(rt, &table, empty_model())?;
+    opened(rt, &table, nearly, 1)?;
+    opened(rt, &table, nearly, 0)?;
+    Ok(())
 }
 
 // Entries 0 to 255, each the only child of the one before it, all ongoing, with so many children and this version.
@@ -129,47 +133,50 @@ fn open_chain(table: &[u64], m: Model) -> Model {
     q
 }
 
-fn last_record(log: Log) {
+fn last_record(rt: &impl Print, log: Log) -> io::Result<()> {
     let n = log.len;
     if 0 < n {
         if n <= 512 {
             let x = log.records[(n - 1) as usize];
-            number(b" last (", x.kind);
-            number(b",", x.position);
-            number(b",", x.removed);
-            number(b",", x.added);
-            text(b")");
+            number(rt, b" last (", x.kind)?;
+            number(rt, b",", x.position)?;
+            number(rt, b",", x.removed)?;
+            number(rt, b",", x.added)?;
+            text(rt, b")")?;
         }
     }
-    text(b"\n");
+    text(rt, b"\n")?;
+    Ok(())
 }
 
 // A chain of 255 open rows is updated with 511 records and closed with 255.
-fn deep_rows() {
-    text(b"255 rows are opened, one below the other\n");
+fn deep_rows(rt: &impl Print) -> io::Result<()> {
+    text(rt, b"255 rows are opened, one below the other\n")?;
     let one = chain_table(1, 0);
     let two = chain_table(2, 1);
-    let chain = open_chain(&one, updated(&one, empty_model()));
-    number(b"total ", chain.published);
-    number(b", regions ", chain.region_count);
-    text(b"\n");
-    let grown = updated(&two, chain);
+    let chain = open_chain(&one, updated(rt, &one, empty_model())?);
+    number(rt, b"total ", chain.published)?;
+    number(rt, b", regions ", chain.region_count)?;
+    text(rt, b"\n")?;
+    let grown = updated(rt, &two, chain)?;
     let answer = tree_list::close(grown, RowNumber(0));
-    number(b"close row 0: ", answer.refusal);
-    number(b", total ", answer.model.published);
-    number(b", records ", answer.log.len);
-    last_record(answer.log);
+    number(rt, b"close row 0: ", answer.refusal)?;
+    number(rt, b", total ", answer.model.published)?;
+    number(rt, b", records ", answer.log.len)?;
+    last_record(rt, answer.log)?;
+    Ok(())
 }
 
-fn main() {
+fn main(rt: HostRuntime) -> io::Result<()> {
     let words: [u64; 6] = [0, 0, 0, 0, 0, 0];
-    show_new(&words[0..0]);
-    show_new(&words[0..4]);
-    show_new(&words[0..5]);
-    show_new(&words[0..6]);
-    show_new(&[0, 0, 1, 0, 0]);
+    show_new(&rt, &words[0..0])?;
+    show_new(&rt, &words[0..4])?;
+    show_new(&rt, &words[0..5])?;
+    show_new(&rt, &words[0..6])?;
+    show_new(&rt, &[0, 0, 1, 0, 0])?;
     let wide = wide_table();
-    followed_rows(&wide);
-    most_rows();
-    deep_rows();
+    followed_rows(&rt, &wide)?;
+    most_rows(&rt)?;
+    deep_rows(&rt)?;
+    Ok(())
 }

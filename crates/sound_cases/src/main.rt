@@ -2,13 +2,12 @@
 #![tactic(auto)]
 
 use model::{Model, Node, Region};
+use std::io;
 
-fn say(name: &[u8], m: Model) {
-    io::write_all(1, name);
-    io::write_all(1, b": ");
+fn say(rt: &impl Print, name: &[u8], m: Model) -> io::Result<()> {
     let answer = tree_list::count(m);
-    io::print_decimal(1, answer.refusal);
-    io::write_all(1, b"\n");
+    rt.write_all(name)?;
+    println!(rt; ": {answer.refusal}")
 }
 
 fn no_node() -> Node {
@@ -157,188 +156,199 @@ fn full(x: u64, open: bool) -> Model {
     }
 }
 
-fn sound_models() {
-    say(b"no rows", no_rows());
-    say(b"three rows", flat(3));
-    say(b"as many rows as there can be", flat(4294967295));
-    say(b"an open row and a followed one", small());
-    say(b"the last row open", last_open());
-    say(b"a chain of 255 open nodes", chain());
-    say(b"as many regions as there can be", comb());
+fn sound_models(rt: &impl Print) -> io::Result<()> {
+    say(rt, b"no rows", no_rows())?;
+    say(rt, b"three rows", flat(3))?;
+    say(rt, b"as many rows as there can be", flat(4294967295))?;
+    say(rt, b"an open row and a followed one", small())?;
+    say(rt, b"the last row open", last_open())?;
+    say(rt, b"a chain of 255 open nodes", chain())?;
+    say(rt, b"as many regions as there can be", comb())?;
+    Ok(())
 }
 
-fn capture_faults() {
+fn capture_faults(rt: &impl Print) -> io::Result<()> {
     let mut a = no_rows();
     a.nodes[0].open = false;
     a.nodes[0].ongoing = true;
-    say(b"the capture not open", a);
+    say(rt, b"the capture not open", a)?;
     let mut b = small();
     b.nodes[0].entry = 1;
-    say(b"the capture with an entry", b);
+    say(rt, b"the capture with an entry", b)?;
     let mut c = small();
     c.nodes[0].parent = 1;
-    say(b"the capture with a parent", c);
+    say(rt, b"the capture with a parent", c)?;
     let mut d = small();
     d.nodes[0].index = 1;
-    say(b"the capture with an index", d);
+    say(rt, b"the capture with an index", d)?;
     let mut e = small();
     e.nodes[0].version = 1;
-    say(b"the capture with a version", e);
+    say(rt, b"the capture with a version", e)?;
+    Ok(())
 }
 
-fn node_faults() {
+fn node_faults(rt: &impl Print) -> io::Result<()> {
     let mut a = small();
     a.nodes[1].entry = 0;
-    say(b"entry 0", a);
+    say(rt, b"entry 0", a)?;
     let mut b = small();
     b.nodes[3] = followed_node(2, 0, 9, 0);
-    say(b"a closed parent", b);
+    say(rt, b"a closed parent", b)?;
     let mut c = small();
     c.nodes[2].parent = 9;
-    say(b"a parent that is not in use", c);
+    say(rt, b"a parent that is not in use", c)?;
     let mut d = small();
     d.nodes[2].parent = 256;
-    say(b"a parent past the places", d);
+    say(rt, b"a parent past the places", d)?;
     let mut e = small();
     e.nodes[2].index = 2;
-    say(b"an index at the parent's count", e);
+    say(rt, b"an index at the parent's count", e)?;
     let mut f = small();
     f.nodes[1].direct = 0;
     f.nodes[1].total = 0;
-    say(b"an open node without children", f);
+    say(rt, b"an open node without children", f)?;
+    Ok(())
 }
 
-fn pair_faults() {
+fn pair_faults(rt: &impl Print) -> io::Result<()> {
     let mut a = small();
     a.nodes[255] = followed_node(1, 0, 9, 4);
-    say(b"a twin, both followed", a);
+    say(rt, b"a twin, both followed", a)?;
     let mut b = small();
     b.nodes[3] = followed_node(0, 1, 9, 4);
-    say(b"a twin, one of them open", b);
+    say(rt, b"a twin, one of them open", b)?;
     let mut c = small();
     c.nodes[0].total = 7;
     c.nodes[3] = open_node(0, 1, 9, 2, 2);
     c.published = 7;
-    say(b"a twin, both open", c);
+    say(rt, b"a twin, both open", c)?;
     let mut d = small();
     d.nodes[3] = open_node(3, 0, 9, 1, 1);
-    say(b"a node that is its own parent", d);
+    say(rt, b"a node that is its own parent", d)?;
     let mut e = small();
     e.nodes[3] = open_node(4, 0, 9, 1, 1);
     e.nodes[4] = open_node(3, 0, 9, 1, 1);
-    say(b"two nodes, each the other's parent", e);
+    say(rt, b"two nodes, each the other's parent", e)?;
+    Ok(())
 }
 
-fn total_faults() {
+fn total_faults(rt: &impl Print) -> io::Result<()> {
     let mut a = small();
     a.nodes[0].total = 6;
-    say(b"a total too large", a);
+    say(rt, b"a total too large", a)?;
     let mut b = small();
     b.nodes[1].total = 1;
-    say(b"a total below the count", b);
+    say(rt, b"a total below the count", b)?;
     let mut c = small();
     c.nodes[2].total = 0;
-    say(b"a closed node with total unlike direct", c);
+    say(rt, b"a closed node with total unlike direct", c)?;
     let mut d = comb();
     d.nodes[9].total = 18446744073709551615;
-    say(b"totals whose sum passes 64 bits", d);
+    say(rt, b"totals whose sum passes 64 bits", d)?;
+    Ok(())
 }
 
-fn region_faults() {
+fn region_faults(rt: &impl Print) -> io::Result<()> {
     let mut a = small();
     a.regions[1].start = 3;
-    say(b"a region's start", a);
+    say(rt, b"a region's start", a)?;
     let mut b = small();
     b.regions[1].node = 2;
-    say(b"a region's node", b);
+    say(rt, b"a region's node", b)?;
     let mut c = small();
     c.regions[2].offset = 1;
-    say(b"a region's offset", c);
+    say(rt, b"a region's offset", c)?;
     let mut d = small();
     d.regions[2].length = 2;
-    say(b"a region past its node's end", d);
+    say(rt, b"a region past its node's end", d)?;
     let mut e = small();
     e.regions[1].length = 0;
-    say(b"a region of length 0", e);
+    say(rt, b"a region of length 0", e)?;
     let mut f = flat(3);
     f.regions[0].length = 2;
     f.regions[1] = region(2, 0, 2, 1);
     f.region_count = 2;
-    say(b"two regions in place of one", f);
+    say(rt, b"two regions in place of one", f)?;
+    Ok(())
 }
 
-fn region_list_faults() {
+fn region_list_faults(rt: &impl Print) -> io::Result<()> {
     let mut a = small();
     a.regions[0].length = 3;
     a.regions[1] = region(3, 1, 0, 2);
     a.regions[2] = region(0, 0, 0, 0);
     a.region_count = 2;
-    say(b"an open row in the middle of a region", a);
+    say(rt, b"an open row in the middle of a region", a)?;
     let mut b = last_open();
     b.regions[2] = region(0, 0, 0, 0);
     b.region_count = 2;
-    say(b"no region for the last open row", b);
+    say(rt, b"no region for the last open row", b)?;
     let mut c = small();
     c.region_count = 2;
-    say(b"a region count too small", c);
+    say(rt, b"a region count too small", c)?;
     let mut d = small();
     d.region_count = 4;
-    say(b"a region count too large", d);
+    say(rt, b"a region count too large", d)?;
     let mut e = comb();
     e.region_count = 18446744073709551615;
-    say(b"a region count past the places", e);
+    say(rt, b"a region count past the places", e)?;
     let mut f = comb();
     f.regions[510] = region(0, 0, 0, 0);
-    say(b"the last region zero", f);
+    say(rt, b"the last region zero", f)?;
+    Ok(())
 }
 
-fn unused_faults() {
+fn unused_faults(rt: &impl Print) -> io::Result<()> {
     let mut a = small();
     a.nodes[3].parent = 1;
-    say(b"an unused place with a parent", a);
+    say(rt, b"an unused place with a parent", a)?;
     let mut b = small();
     b.nodes[3].index = 1;
-    say(b"an unused place with an index", b);
+    say(rt, b"an unused place with an index", b)?;
     let mut c = small();
     c.nodes[3].entry = 1;
-    say(b"an unused place with an entry", c);
+    say(rt, b"an unused place with an entry", c)?;
     let mut d = small();
     d.nodes[3].direct = 1;
-    say(b"an unused place with a count", d);
+    say(rt, b"an unused place with a count", d)?;
     let mut e = small();
     e.nodes[3].total = 1;
-    say(b"an unused place with a total", e);
+    say(rt, b"an unused place with a total", e)?;
     let mut f = small();
     f.nodes[255].version = 1;
-    say(b"an unused place with a version", f);
+    say(rt, b"an unused place with a version", f)?;
     let mut g = small();
     g.regions[511].offset = 1;
-    say(b"an unused region place that is not zero", g);
+    say(rt, b"an unused region place that is not zero", g)?;
+    Ok(())
 }
 
-fn count_faults() {
+fn count_faults(rt: &impl Print) -> io::Result<()> {
     let mut a = small();
     a.published = 6;
-    say(b"a published count one too large", a);
+    say(rt, b"a published count one too large", a)?;
     let mut b = small();
     b.published = 4;
-    say(b"a published count one too small", b);
-    say(b"a row more than there can be", flat(4294967296));
-    say(b"every number 0", full(0, false));
+    say(rt, b"a published count one too small", b)?;
+    say(rt, b"a row more than there can be", flat(4294967296))?;
+    say(rt, b"every number 0", full(0, false))?;
     say(
+        rt,
         b"every number as large as it can be",
         full(18446744073709551615, true),
-    );
+    )?;
+    Ok(())
 }
 
-fn main() {
-    sound_models();
-    capture_faults();
-    node_faults();
-    pair_faults();
-    total_faults();
-    region_faults();
-    region_list_faults();
-    unused_faults();
-    count_faults();
+fn main(rt: HostRuntime) -> io::Result<()> {
+    sound_models(&rt)?;
+    capture_faults(&rt)?;
+    node_faults(&rt)?;
+    pair_faults(&rt)?;
+    total_faults(&rt)?;
+    region_faults(&rt)?;
+    region_list_faults(&rt)?;
+    unused_faults(&rt)?;
+    count_faults(&rt)?;
+    Ok(())
 }
