@@ -7,7 +7,7 @@ use std::io;
 fn say(rt: &impl Print, name: &[u8], m: Model) -> io::Result<()> {
     let answer = tree_list::count(m);
     rt.write_all(name)?;
-    println!(rt; ": {answer.refusal}")
+    println!(rt; ": {}", answer.refusal)
 }
 
 fn no_node() -> Node {
