@@ -24,6 +24,7 @@ fn empty_capture(ongoing: bool) -> Model
     m
 }
 
+#[tactic(auto, using(crate::proofs::AnswerNew::new_unreadable, crate::proofs::AnswerNew::new_filled, crate::proofs::AnswerNew::new_done, crate::proofs::AnswerNew::readable_five))]
 pub fn new(table: &[u64]) -> ModelAnswer
     ensures { result ≡ answer_new table.now }
 {
