@@ -15,7 +15,6 @@ use Rattle.model.specs.Places.{row_limit}
 use Rattle.model.specs.Table.{item_count, entries}
 use Rattle.model.specs.Nodes.{node_at, is_open}
 use Rattle.model.specs.Rows.{row_total}
-use Rattle.model.specs.Sound.{sound}
 use Rattle.model.specs.Logs.{State, state, log_of}
 use Rattle.model.specs.Update.{Step, text, grow, added, step, steps, visits, any_went_back, updated}
 use Rattle.tree.specs.WellFormed.{WellFormed}

@@ -10,13 +10,7 @@ use mathlib.Core.List.Memᴰ.{append_right as in_right}
 use mathlib.Core.List.Memᴰ.{eq_of_singleton as only}
 use mathlib.Core.List.Memᴰ.{head as first}
 use mathlib.Core.List.Memᴰ.{not-nil}
-use mathlib.Core.List.{
-  List,
-  [],
-  ◌∷◌,
-  ◌++◌,
-  Memᴰ as In,
-}
+use mathlib.Core.List.{List, [], ◌∷◌, Memᴰ as In}
 use lib.ListN.{length, get_or, take, set, length-append, get_or-eq_default}
 use lib.Seq.{get_or-set_same, get_or-set_other, set_out}
 use lib.Dec.{eqb}

@@ -1,0 +1,9 @@
+use Rattle.std.proofs.Common.{◌-◌, ◌≡◌, ℕ, ◌+◌, ◌*◌, ◌<◌, ◌≤◌, length}
+use Rattle.limit_cases.proofs.chain_table.Given as goal
+
+abbrev pub invariant-loop-entry : goal.invariant-loop-entry
+invariant-loop-entry l = ?
+
+-- proposed from the loop's first test
+abbrev pub decreases-loop-entry : goal.decreases-loop-entry
+decreases-loop-entry l = 256 - l.entry

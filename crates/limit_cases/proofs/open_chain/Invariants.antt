@@ -1,0 +1,9 @@
+use Rattle.std.proofs.Common.{◌-◌, ◌≡◌, ℕ, ◌+◌, ◌*◌, ◌<◌, ◌≤◌, length}
+use Rattle.limit_cases.proofs.open_chain.Given as goal
+
+abbrev pub invariant-loop-row : goal.invariant-loop-row
+invariant-loop-row l = ?
+
+-- proposed from the loop's first test
+abbrev pub decreases-loop-row : goal.decreases-loop-row
+decreases-loop-row l = 255 - l.row
