@@ -13,14 +13,11 @@ offset_bounds-m-code c =
 pub bounds-m-code : goal.bounds-m-code
 bounds-m-code c = visited_small c.args.table.now c.args.m c.requires.m_value c.args.order c.requires.holds c.loop-i.i c.loop-i-test.true
 
-pub overflow_sub-sum : goal.overflow_sub-sum
-overflow_sub-sum c = c.loop-i.invariant.0
-
 pub returns-then-sum-rows : goal.returns-then-sum-rows
 returns-then-sum-rows c =
     let l = c.loop-i in
     let n = c.step_rows-rows in
-    limit_passed c.args.table.now c.args.m c.requires.m_value c.args.order c.requires.holds l.i c.requires.nodes_value c.loop-i-test.true l.sum l.invariant.1 l.invariant.0 n.result n.ensures c.if-sum-rows.true
+    limit_passed c.args.table.now c.args.m c.requires.m_value c.args.order c.requires.holds l.i c.requires.nodes_value c.loop-i-test.true l.sum l.invariant.1 l.invariant.0 n.result n.ensures (omega arith)
 
 pub loop-i-preserved : goal.loop-i-preserved
 loop-i-preserved c =

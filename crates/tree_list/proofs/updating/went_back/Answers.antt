@@ -1,10 +1,10 @@
-use Rattle.std.proofs.Common.{sym, rules}
+use Rattle.std.proofs.Common.{sym, rules, arith}
 use Rattle.model.specs.Table.{entries}
 use Rattle.tree_list.proofs.UpdateTests.{back_away, back_there}
 use Rattle.tree_list.proofs.updating.went_back.Goals as goal
 
 pub returns-then-entries-n : goal.returns-then-entries-n
-returns-then-entries-n c = sym (back_away c.args.table.now c.args.n c.if-entries-n.true)
+returns-then-entries-n c = sym (back_away c.args.table.now c.args.n (omega arith))
 
 pub item_count-requires : goal.item_count-requires
 unfolding entries
