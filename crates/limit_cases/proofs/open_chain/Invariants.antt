@@ -1,9 +1,8 @@
-use Rattle.std.proofs.Common.{◌-◌, ◌≡◌, ℕ, ◌+◌, ◌*◌, ◌<◌, ◌≤◌, length}
+use Rattle.std.proofs.Common.{◌≤◌, ◌-◌}
 use Rattle.limit_cases.proofs.open_chain.Given as goal
 
 abbrev pub invariant-loop-row : goal.invariant-loop-row
-invariant-loop-row l = ?
+invariant-loop-row l = l.row ≤ 255
 
--- proposed from the loop's first test
 abbrev pub decreases-loop-row : goal.decreases-loop-row
 decreases-loop-row l = 255 - l.row
