@@ -7,6 +7,7 @@ ghost use Rattle.tree.specs.WellFormed.{WellFormed, Opens};
 ghost use Rattle.order_cases.specs.Chain.{chain_node, chain_nodes};
 
 use model::{Model, Node, Region};
+use std::io;
 
 fn above(k: u64) -> u64
     ensures { result ≡ k - 1 }
@@ -54,36 +55,36 @@ fn chain() -> Model
     m
 }
 
-fn say(words: &[u8], n: u64) {
-    io::write_all(1, words);
-    io::print_decimal(1, n);
+fn say(rt: &impl Print, words: &[u8], n: u64) -> io::Result<()> {
+    rt.write_all(words)?;
+    print!(rt; "{n}")
 }
 
-fn close_outermost(m: Model)
+fn close_outermost(rt: &impl Print, m: Model) -> io::Result<()>
     requires { WellFormed m.nodes × Opens m.nodes 1 }
 {
     let o = orders::closing_order(m, 1);
-    say(b"closing node 1: steps ", o.len);
-    say(b", first ", o.steps[0]);
-    say(b", second ", o.steps[1]);
-    say(b", last ", o.steps[254]);
-    io::write_all(1, b"\n");
+    say(rt, b"closing node 1: steps ", o.len)?;
+    say(rt, b", first ", o.steps[0])?;
+    say(rt, b", second ", o.steps[1])?;
+    say(rt, b", last ", o.steps[254])?;
+    rt.write_all(b"\n")
 }
 
-fn update(m: Model)
+fn update(rt: &impl Print, m: Model) -> io::Result<()>
     requires { WellFormed m.nodes }
 {
     let o = orders::visits(m);
-    say(b"updating: steps ", o.len);
-    say(b", first ", o.steps[0]);
-    say(b", innermost ", o.steps[255]);
-    say(b" and ", o.steps[256]);
-    say(b", last ", o.steps[511]);
-    io::write_all(1, b"\n");
+    say(rt, b"updating: steps ", o.len)?;
+    say(rt, b", first ", o.steps[0])?;
+    say(rt, b", innermost ", o.steps[255])?;
+    say(rt, b" and ", o.steps[256])?;
+    say(rt, b", last ", o.steps[511])?;
+    rt.write_all(b"\n")
 }
 
-fn main() {
+fn main(rt: HostRuntime) -> io::Result<()> {
     let m = chain();
-    close_outermost(m);
-    update(m);
+    close_outermost(&rt, m)?;
+    update(&rt, m)
 }
