@@ -1,5 +1,5 @@
-// 255 nested rows, each open and ongoing, through both orders: no model is deeper. Measured, a stack of
-// 128 KB is enough.
+// 255 nested rows, each open and ongoing, through both orders: no model is deeper. Measured with the older
+// kit rattle-kit-5b, a stack of 128 KB is enough.
 #![tactic(auto)]
 
 ghost use Rattle.std.specs.Prelude.{◌≡◌, ◌-◌};
