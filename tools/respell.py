@@ -30,8 +30,10 @@ def is_ours(name):
 # Names that the kit makes for the goals and members of a cycle, and names of proof records.
 MADE = re.compile(r'^(visit|walk)-(add|mul|sub|element|loop|returns|calls|Pre|allowance|walk|visit|count|next)|'
                   r'^(well-formed|returns-\d|loop-(again|holds|less).*|close-order-requires|next-child-requires.*|'
-                  r'element-.*|add-next-child|add-result|mul-next-child|mul-out|sub-close-order|raise-requires|'
-                  r'raise-returns|count-at-requires)$')
+                  r'element-.*|add-next-child|add-result|mul-next-child|mul-out|sub-close-order|'
+                  r'count-at-requires|.*-requires-clause-.*)$')
+# A lemma whose name is an English word in comments, and that of a field which the kit makes.
+WELL_FORMED = re.compile(r'(?m)^(?!\s*--)(.*?)(?<![.\w-])well-formed(?![\w-])')
 # A lemma whose name would fall together with that of a definition or function.
 LEMMAS = {'child-total', 'fetch-row', 'first-row', 'logged-when', 'moved-above', 'nodes-ok', 'open-child', 'path-row',
           'row-total', 'same-model', 'same-node', 'same-region', 'seek-from', 'sum-up', 'total-moved', 'row-of',
@@ -69,6 +71,8 @@ def main():
     for path in paths:
         text = open(path).read()
         new = TOKEN.sub(lambda m: table.get(m.group(0), m.group(0)), text)
+        while WELL_FORMED.search(new):
+            new = WELL_FORMED.sub(r'\1well_formed', new)
         if new != text:
             open(path, 'w').write(new)
     for path in glob.glob('crates/*/src/**/*.rt', recursive=True):

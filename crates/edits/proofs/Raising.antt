@@ -171,8 +171,8 @@ module _ (ns : List Node) (k count : ℕ) (R : Raisable ns k count) where
   raise_small = used_small ns w k (open_used ns k R.opens)
 
   -- what the climb asks, where the node stored is a value that equals it
-  pub raise-requires : (n : Node) → n ≡ grown_node count (node_at ns k) → WellFormed (set ns k n) × (Used (set ns k n) k × AllMovable true more (set ns k n) k)
-  raise-requires n e = rw e (stored_well, (stored_used, stored_movable))
+  pub raise_requires : (n : Node) → n ≡ grown_node count (node_at ns k) → WellFormed (set ns k n) × (Used (set ns k n) k × AllMovable true more (set ns k n) k)
+  raise_requires n e = rw e (stored_well, (stored_used, stored_movable))
 
-pub raise-returns : (m : Model) (k count : ℕ) (n : Node) → n ≡ grown_node count (node_at m.nodes k) → with_nodes m (moved_above true (count - direct_of m.nodes k) depth (set m.nodes k n) k) ≡ with_nodes m (raised m.nodes k count)
-raise-returns m k count n e = ap (λ (x : Node). with_nodes m (moved_above true (count - direct_of m.nodes k) depth (set m.nodes k x) k)) e
+pub raise_returns : (m : Model) (k count : ℕ) (n : Node) → n ≡ grown_node count (node_at m.nodes k) → with_nodes m (moved_above true (count - direct_of m.nodes k) depth (set m.nodes k n) k) ≡ with_nodes m (raised m.nodes k count)
+raise_returns m k count n e = ap (λ (x : Node). with_nodes m (moved_above true (count - direct_of m.nodes k) depth (set m.nodes k x) k)) e

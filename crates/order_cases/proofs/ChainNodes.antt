@@ -12,7 +12,7 @@ use Rattle.model.specs.declared.Node.{Node}
 use Rattle.model.specs.Nodes.{no_node, node_at, is_open, seek_from, seek, child_by}
 use Rattle.model.specs.Sound.{nodes_ok, node_ok, used_ok, capture_ok, reaches}
 use Rattle.order_cases.specs.Chain.{chain_node, chain_from, chain_nodes}
-use Rattle.tree.proofs.WellFormed.{well-formed}
+use Rattle.tree.proofs.WellFormed.{well_formed}
 use Rattle.tree.specs.WellFormed.{WellFormed, Opens}
 
 from_at : (j n i : ℕ) → i < n → node_at (chain_from j n) i ≡ chain_node (j + i)
@@ -39,7 +39,7 @@ unfolding chain_nodes chain_from nodes_ok node_ok used_ok capture_ok reaches see
 chain_tested = refl
 
 pub chain_well : (ns : List Node) → ns ≡ chain_nodes → WellFormed ns
-chain_well ns e = rw e (well-formed chain_nodes chain_long chain_tested)
+chain_well ns e = rw e (well_formed chain_nodes chain_long chain_tested)
 
 pub chain_open : (ns : List Node) → ns ≡ chain_nodes → Opens ns 1
 chain_open ns e = rw e (ap is_open (chain_at 1 (omega arith)))

@@ -1,4 +1,5 @@
-// What a person reads of answers: numbers, logs, regions. All of it goes to standard output.
+// What a person reads of answers: numbers, logs, regions. All of it goes where the handle prints, which is
+// standard output in the programs.
 #![tactic(auto)]
 
 use model::{Log, Model, Record, Region};

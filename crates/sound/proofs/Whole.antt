@@ -19,7 +19,7 @@ use Rattle.sound.proofs.Formed.{no_twins, nodes_places, places_nodes}
 use Rattle.sound.proofs.Course.{regions_many}
 use Rattle.sound.proofs.Totals.{totals_chains, totals_settled, total_rows}
 use Rattle.lists.proofs.Bools.{differ}
-use Rattle.tree.proofs.WellFormed.{open_used, well-formed, zero_open}
+use Rattle.tree.proofs.WellFormed.{open_used, well_formed, zero_open}
 use Rattle.tree.specs.WellFormed.{WellFormed}
 
 regroup : (e n a b c d l : Bool) → e ≡ true → (e && n && (a && b && c && d) && l) ≡ (n && (a && ((b && c) && (d && l))))
@@ -41,7 +41,7 @@ module _ (m : Model) (size : length m.nodes ≡ 256) where
       (eqb m.published (row_total m.nodes)) (leb (row_total m.nodes) row_limit) (eq-eqb (length m.nodes) 256 size)
 
   well : nodes_ok m.nodes 0 m.nodes ≡ true → WellFormed m.nodes
-  well = well-formed m.nodes size
+  well = well_formed m.nodes size
 
   -- what is false if the nodes are well-formed makes the model not sound
   not_sound : (nodes_ok m.nodes 0 m.nodes ≡ true → sound m ≡ false) → false ≡ sound m

@@ -5,9 +5,11 @@ use model::{Model, Node, Region};
 use std::io;
 
 fn say(rt: &impl Print, name: &[u8], m: Model) -> io::Result<()> {
-    let answer = tree_list::count(m);
     rt.write_all(name)?;
-    println!(rt; ": {}", answer.refusal)
+    rt.write_all(b": ")?;
+    let answer = tree_list::count(m);
+    print!(rt; "{}", answer.refusal)?;
+    rt.write_all(b"\n")
 }
 
 fn no_node() -> Node {

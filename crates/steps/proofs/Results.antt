@@ -34,7 +34,7 @@ use Rattle.paths.proofs.Sorted.{child_paths_length}
 use Rattle.paths.specs.Listings.{child_paths}
 use Rattle.paths.specs.Order.{◌·◌}
 use Rattle.tree.proofs.Listing.{open_child_lem, length_paths}
-use Rattle.tree.proofs.WellFormed.{well-formed, zero_open, open_used}
+use Rattle.tree.proofs.WellFormed.{well_formed, zero_open, open_used}
 use Rattle.tree.specs.Paths.{to}
 use Rattle.tree.specs.WellFormed.{WellFormed}
 
@@ -48,7 +48,7 @@ capture_total m S = (sound_given m S).totals.total 0 (open_used m.nodes 0 (zero_
 
 new_well : (t : List ℕ) → WellFormed (capture t ∷ replicate longest_chain no_node)
 unfolding nodes_ok node_ok capture_ok
-new_well t = well-formed (capture t ∷ replicate longest_chain no_node) refl refl
+new_well t = well_formed (capture t ∷ replicate longest_chain no_node) refl refl
 
 -- a new model comes of nothing
 pub new_result : (t : List ℕ) → Result zeros [] (settle (capture t ∷ replicate longest_chain no_node))

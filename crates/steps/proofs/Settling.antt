@@ -30,7 +30,7 @@ use Rattle.steps.specs.Settled.{Given, Sound}
 use Rattle.steps.proofs.Closing.{length_free, free_at}
 use Rattle.steps.proofs.Quiet.{quiet_paths, bare_sym, bare_used, bare_rows, bare_total, bare_quiet, quiet_rows}
 use Rattle.lists.proofs.Bools.{bool}
-use Rattle.tree.proofs.WellFormed.{well-formed, tested}
+use Rattle.tree.proofs.WellFormed.{well_formed, tested}
 use Rattle.tree.specs.WellFormed.{up, WellFormed}
 
 length_totalled : (ns : List Node) (k : ℕ) (ms : List Node) → length (totalled ns k ms) ≡ length ms
@@ -242,7 +242,7 @@ model_same a = let e₁ = list_same same_node node_same a.nodes in let e₂ = li
 
 pub sound_of : (m : Model) → sound m ≡ true → Sound m
 unfolding sound
-sound_of m e = record { well = well-formed m.nodes (search apart) (search apart); is = same_model_lem m (settle m.nodes) (search apart); limit = search apart }
+sound_of m e = record { well = well_formed m.nodes (search apart) (search apart); is = same_model_lem m (settle m.nodes) (search apart); limit = search apart }
 
 pub sound_to : (m : Model) → Sound m → sound m ≡ true
 unfolding sound

@@ -96,9 +96,9 @@ unfolding node_ok
 at_unused ns k e u = rw u at e
 
 -- the test gives the statements
-pub well-formed : (ns : List Node) → length ns ≡ node_places → nodes_ok ns 0 ns ≡ true → WellFormed ns
+pub well_formed : (ns : List Node) → length ns ≡ node_places → nodes_ok ns 0 ns ≡ true → WellFormed ns
 unfolding node_ok
-well-formed ns s e = record {
+well_formed ns s e = record {
   size = s;
   root = root_of (node_at ns 0) (ok 0 (omega arith));
   placed = λ k u. (used_of ns (suc k) (at_used ns k (ok (suc k) (rw s at (used_inside ns (suc k) u))) u)).0;

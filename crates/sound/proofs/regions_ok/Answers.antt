@@ -7,20 +7,20 @@ use Rattle.sound.proofs.Runs.{region_at, zero_from}
 use Rattle.sound.proofs.Children.{not_deep}
 use Rattle.sound.proofs.Walk.{depth_less, place_index}
 use Rattle.sound.proofs.Course.{course_place, course_start, course_up, course_ended, course_end, course_bad, course_length, course_fits, course_in, course_along, course_stuck}
-use Rattle.tree.proofs.WellFormed.{well-formed, open_used, used_small}
+use Rattle.tree.proofs.WellFormed.{well_formed, open_used, used_small}
 use Rattle.sound.proofs.regions_ok.Goals as goal
 
 pub loop-j-init : goal.loop-j-init
 loop-j-init c =
     let m = c.args.m in
-    let w = well-formed m.nodes (nodes_long m _ c.well_formed.0) c.requires.0 in
+    let w = well_formed m.nodes (nodes_long m _ c.well_formed.0) c.requires.0 in
     let places = regions_long m _ c.well_formed.0 in
     (omega arith, c.requires.2, course_start m.nodes w m.regions places m.region_count)
 
 pub offset_bounds-m-p : goal.offset_bounds-m-p
 offset_bounds-m-p c =
     let m = c.args.m in
-    let w = well-formed m.nodes (nodes_long m _ c.well_formed.0) c.requires.0 in
+    let w = well_formed m.nodes (nodes_long m _ c.well_formed.0) c.requires.0 in
     let places = regions_long m _ c.well_formed.0 in
     let l = c.loop-j in
     let low : l.p < 256 = used_small m.nodes w l.p (open_used m.nodes l.p (course_place m.nodes w m.regions places m.region_count l.j l.s l.p l.i l.invariant.2).opened) in
@@ -29,7 +29,7 @@ offset_bounds-m-p c =
 pub bounds-m-p : goal.bounds-m-p
 bounds-m-p c =
     let m = c.args.m in
-    let w = well-formed m.nodes (nodes_long m _ c.well_formed.0) c.requires.0 in
+    let w = well_formed m.nodes (nodes_long m _ c.well_formed.0) c.requires.0 in
     let places = regions_long m _ c.well_formed.0 in
     let l = c.loop-j in
     used_small m.nodes w l.p (open_used m.nodes l.p (course_place m.nodes w m.regions places m.region_count l.j l.s l.p l.i l.invariant.2).opened)
@@ -37,7 +37,7 @@ bounds-m-p c =
 pub returns-then-p-eq0 : goal.returns-then-p-eq0
 returns-then-p-eq0 c =
     let m = c.args.m in
-    let w = well-formed m.nodes (nodes_long m _ c.well_formed.0) c.requires.0 in
+    let w = well_formed m.nodes (nodes_long m _ c.well_formed.0) c.requires.0 in
     let places = regions_long m _ c.well_formed.0 in
     let l = c.loop-j in
     course_ended m.nodes w m.regions places m.region_count l.j l.s l.p l.i c.if-p-eq0.true c.if-n-i.true c.loop-j-test.true l.invariant.2
@@ -45,7 +45,7 @@ returns-then-p-eq0 c =
 pub overflow_add-i : goal.overflow_add-i
 overflow_add-i c =
     let m = c.args.m in
-    let w = well-formed m.nodes (nodes_long m _ c.well_formed.0) c.requires.0 in
+    let w = well_formed m.nodes (nodes_long m _ c.well_formed.0) c.requires.0 in
     let places = regions_long m _ c.well_formed.0 in
     let l = c.loop-j in
     omega (arith, (node_fits m _ c.well_formed.0 (node_at m.nodes l.p).parent).direct_fits, place_index m.nodes w l.p c.if-p-eq0.false (course_place m.nodes w m.regions places m.region_count l.j l.s l.p l.i l.invariant.2).opened)
@@ -53,7 +53,7 @@ overflow_add-i c =
 pub loop-j-smaller-then-n-i : goal.loop-j-smaller-then-n-i
 loop-j-smaller-then-n-i c =
     let m = c.args.m in
-    let w = well-formed m.nodes (nodes_long m _ c.well_formed.0) c.requires.0 in
+    let w = well_formed m.nodes (nodes_long m _ c.well_formed.0) c.requires.0 in
     let places = regions_long m _ c.well_formed.0 in
     let l = c.loop-j in
     omega (arith, depth_less m.nodes w l.p c.if-p-eq0.false (course_place m.nodes w m.regions places m.region_count l.j l.s l.p l.i l.invariant.2).opened)
@@ -61,7 +61,7 @@ loop-j-smaller-then-n-i c =
 pub loop-j-preserved-then-n-i : goal.loop-j-preserved-then-n-i
 loop-j-preserved-then-n-i c =
     let m = c.args.m in
-    let w = well-formed m.nodes (nodes_long m _ c.well_formed.0) c.requires.0 in
+    let w = well_formed m.nodes (nodes_long m _ c.well_formed.0) c.requires.0 in
     let places = regions_long m _ c.well_formed.0 in
     let l = c.loop-j in
     (l.invariant.0, l.invariant.1, course_up m.nodes w m.regions places m.region_count l.j l.s l.p l.i c.if-p-eq0.false c.if-n-i.true l.invariant.2)
@@ -69,7 +69,7 @@ loop-j-preserved-then-n-i c =
 pub returns-then-not-begins_at : goal.returns-then-not-begins_at
 returns-then-not-begins_at c =
     let m = c.args.m in
-    let w = well-formed m.nodes (nodes_long m _ c.well_formed.0) c.requires.0 in
+    let w = well_formed m.nodes (nodes_long m _ c.well_formed.0) c.requires.0 in
     let places = regions_long m _ c.well_formed.0 in
     let l = c.loop-j in
     course_bad m.nodes w m.regions places m.region_count l.j l.s l.p l.i (omega arith) c.if-n-i.false (sym c.begins_at.ensures ∙ c.if-not-begins_at.true) l.invariant.2
@@ -77,7 +77,7 @@ returns-then-not-begins_at c =
 pub overflow_add-end : goal.overflow_add-end
 overflow_add-end c =
     let m = c.args.m in
-    let w = well-formed m.nodes (nodes_long m _ c.well_formed.0) c.requires.0 in
+    let w = well_formed m.nodes (nodes_long m _ c.well_formed.0) c.requires.0 in
     let places = regions_long m _ c.well_formed.0 in
     let l = c.loop-j in
     let b = (sym c.begins_at.ensures ∙ c.if-not-begins_at.false) in
@@ -86,7 +86,7 @@ overflow_add-end c =
 pub overflow_add-s : goal.overflow_add-s
 overflow_add-s c =
     let m = c.args.m in
-    let w = well-formed m.nodes (nodes_long m _ c.well_formed.0) c.requires.0 in
+    let w = well_formed m.nodes (nodes_long m _ c.well_formed.0) c.requires.0 in
     let places = regions_long m _ c.well_formed.0 in
     let l = c.loop-j in
     let b = (sym c.begins_at.ensures ∙ c.if-not-begins_at.false) in
@@ -95,7 +95,7 @@ overflow_add-s c =
 pub loop-j-preserved-then-is_next : goal.loop-j-preserved-then-is_next
 loop-j-preserved-then-is_next c =
     let m = c.args.m in
-    let w = well-formed m.nodes (nodes_long m _ c.well_formed.0) c.requires.0 in
+    let w = well_formed m.nodes (nodes_long m _ c.well_formed.0) c.requires.0 in
     let places = regions_long m _ c.well_formed.0 in
     let l = c.loop-j in
     let b = (sym c.begins_at.ensures ∙ c.if-not-begins_at.false) in
@@ -104,7 +104,7 @@ loop-j-preserved-then-is_next c =
 pub loop-j-smaller-then-is_next : goal.loop-j-smaller-then-is_next
 loop-j-smaller-then-is_next c =
     let m = c.args.m in
-    let w = well-formed m.nodes (nodes_long m _ c.well_formed.0) c.requires.0 in
+    let w = well_formed m.nodes (nodes_long m _ c.well_formed.0) c.requires.0 in
     let places = regions_long m _ c.well_formed.0 in
     let l = c.loop-j in
     let b = (sym c.begins_at.ensures ∙ c.if-not-begins_at.false) in
@@ -115,7 +115,7 @@ loop-j-smaller-then-is_next c =
 pub returns-then-end-n : goal.returns-then-end-n
 returns-then-end-n c =
     let m = c.args.m in
-    let w = well-formed m.nodes (nodes_long m _ c.well_formed.0) c.requires.0 in
+    let w = well_formed m.nodes (nodes_long m _ c.well_formed.0) c.requires.0 in
     let places = regions_long m _ c.well_formed.0 in
     let l = c.loop-j in
     let b = (sym c.begins_at.ensures ∙ c.if-not-begins_at.false) in
@@ -124,7 +124,7 @@ returns-then-end-n c =
 pub loop-j-preserved : goal.loop-j-preserved
 loop-j-preserved c =
     let m = c.args.m in
-    let w = well-formed m.nodes (nodes_long m _ c.well_formed.0) c.requires.0 in
+    let w = well_formed m.nodes (nodes_long m _ c.well_formed.0) c.requires.0 in
     let places = regions_long m _ c.well_formed.0 in
     let l = c.loop-j in
     let b = (sym c.begins_at.ensures ∙ c.if-not-begins_at.false) in
@@ -136,7 +136,7 @@ ends_at-requires c = omega arith
 pub returns : goal.returns
 returns c =
     let m = c.args.m in
-    let w = well-formed m.nodes (nodes_long m _ c.well_formed.0) c.requires.0 in
+    let w = well_formed m.nodes (nodes_long m _ c.well_formed.0) c.requires.0 in
     let places = regions_long m _ c.well_formed.0 in
     let l = c.loop-j in
     c.ends_at.ensures ∙ ap (λ (n : ℕ). eqb l.s n && zero_from m.regions l.j) c.requires.1 ∙ course_end m.nodes w m.regions places m.region_count l.j l.s l.p l.i (omega arith) l.invariant.2
