@@ -8,18 +8,13 @@ use lib.Dec.{eqb, ltb, leb}
 use borrow.Author.Tests.{lt-ltb}
 use Rattle.model.specs.declared.Node.{Node}
 use Rattle.model.specs.declared.Model.{Model}
-use Rattle.model.specs.declared.ModelAnswer.{ModelAnswer}
-use Rattle.model.specs.declared.CountAnswer.{CountAnswer}
-use Rattle.model.specs.declared.FetchAnswer.{FetchAnswer}
-use Rattle.model.specs.declared.ChangeAnswer.{ChangeAnswer}
-use Rattle.model.specs.declared.UpdateAnswer.{UpdateAnswer}
+use Rattle.model.specs.Answers.{ModelAnswer, CountAnswer, FetchAnswer, ChangeAnswer, UpdateAnswer, just_model, no_fetch, no_change, no_update, refuse_if}
 use Rattle.model.specs.Places.{row_limit}
 use Rattle.model.specs.Table.{readable, item_count}
 use Rattle.model.specs.Nodes.{node_at, is_open, open_child, free}
 use Rattle.model.specs.Rows.{row_total, row_at}
 use Rattle.model.specs.Logs.{state}
 use Rattle.model.specs.Sound.{sound}
-use Rattle.model.specs.Answers.{just_model, no_fetch, no_change, no_update, refuse_if}
 use Rattle.model.specs.New.{zeros, answer_new}
 use Rattle.model.specs.Count.{counted, answer_count}
 use Rattle.model.specs.Fetch.{fetch_node, answer_fetch}

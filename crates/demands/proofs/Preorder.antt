@@ -10,13 +10,12 @@ use Rattle.lists.specs.Counts.{sum}
 use Rattle.paths.specs.Listings.{Lists}
 use Rattle.model.specs.declared.Node.{Node}
 use Rattle.model.specs.declared.Model.{Model}
-use Rattle.model.specs.declared.FetchAnswer.{FetchAnswer}
+use Rattle.model.specs.Answers.{FetchAnswer, no_fetch, refuse_if}
 use Rattle.model.specs.Table.{readable}
 use Rattle.model.specs.Nodes.{node_at, direct_of, used, child, free}
 use Rattle.model.specs.Rows.{Row, row_total, row_at, paths}
 use Rattle.model.specs.Settle.{settle}
 use Rattle.model.specs.Sound.{sound}
-use Rattle.model.specs.Answers.{no_fetch, refuse_if}
 use Rattle.model.specs.Fetch.{fresh, node_or_fresh, shown, fetched, fetch_node, fetch_row, answer_fetch}
 use Rattle.model.proofs.Search.{child_found}
 use Rattle.tree.specs.Paths.{shape, open_direct}

@@ -11,7 +11,7 @@ use lib.Seq.{length-take-le, get_or-take, get_or-drop, get_or-append-add}
 use Rattle.model.specs.declared.Node.{Node}
 use Rattle.model.specs.declared.Model.{Model}
 use Rattle.model.specs.declared.Region.{Region}
-use Rattle.model.specs.declared.RegionAt.TheVariants.{At, None}
+use Rattle.std.specs.Prelude.{Some, None}
 use Rattle.model.specs.Nodes.{direct_of, open_child}
 use Rattle.model.specs.Rows.{Row, rows, row_of}
 use Rattle.model.specs.Regions.{runs, region}
@@ -121,7 +121,7 @@ module _ (m : Model) (S : Sound m) where
     live_parts : live m ≡ runs 0 (before ++ (stretch (suc k) 0 many ++ after))
     live_parts = rows_live m (rows ns) (laid_rows m S) (few m S) (neat m S) ∙ ap (runs 0) parts
 
-    found : region_at (live m) first ≡ At spot
+    found : region_at (live m) first ≡ Some spot
     found =
         ap (λ (l : List Region). region_at l first) live_parts
         ∙ ap (region_at (runs 0 (before ++ (stretch (suc k) 0 many ++ after)))) (sym before_length)
@@ -155,16 +155,16 @@ module _ (m : Model) (S : Sound m) where
   pub next_row_found : (k : ℕ) → Closable m.nodes k → region_at (live m) (next_row k) ≡ None → ⊥
   next_row_found zero C n = absurd (omega (arith, C.above))
   next_row_found (suc k) C n =
-      let f : region_at (live m) (next_row (suc k)) ≡ At (spot m S k C.opens C.none) = ap (region_at (live m)) (add-one (row_of m.nodes (suc k))) ∙ found m S k C.opens C.none in
+      let f : region_at (live m) (next_row (suc k)) ≡ Some (spot m S k C.opens C.none) = ap (region_at (live m)) (add-one (row_of m.nodes (suc k))) ∙ found m S k C.opens C.none in
       let z : ◌≡◌ {A = ℕ} 0 1 = cc in
       omega arith
 
-  pub children_out : (k : ℕ) → Closable m.nodes k → (i : ℕ) → region_at (live m) (next_row k) ≡ At i → laid m (joined (collapsed (live m) i)) ≡ laid m (runs 0 (rows (closed_at m.nodes k)))
+  pub children_out : (k : ℕ) → Closable m.nodes k → (i : ℕ) → region_at (live m) (next_row k) ≡ Some i → laid m (joined (collapsed (live m) i)) ≡ laid m (runs 0 (rows (closed_at m.nodes k)))
   children_out zero C i e = absurd (omega (arith, C.above))
   children_out (suc k) C i e =
-      let f : region_at (live m) (next_row (suc k)) ≡ At (spot m S k C.opens C.none) = ap (region_at (live m)) (add-one (row_of m.nodes (suc k))) ∙ found m S k C.opens C.none in
+      let f : region_at (live m) (next_row (suc k)) ≡ Some (spot m S k C.opens C.none) = ap (region_at (live m)) (add-one (row_of m.nodes (suc k))) ∙ found m S k C.opens C.none in
       let g : i ≡ spot m S k C.opens C.none = cc in
       rw g (spot_out m S k C.opens C.none)
 
-  pub found_below : (r i : ℕ) → region_at (live m) r ≡ At i → i < length (live m)
+  pub found_below : (r i : ℕ) → region_at (live m) r ≡ Some i → i < length (live m)
   found_below r i e = (at_holds (live m) r i e).below

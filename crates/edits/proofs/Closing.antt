@@ -135,7 +135,7 @@ module _ (m : Model) (S : Sound m) (k : ℕ) (o : Opens m.nodes (suc k)) (none :
 
   -- the model when all is done
   abbrev done : Model → Node → Model
-  done q x = record { nodes = set q.nodes (suc k) x; regions = q.regions; region_count = q.region_count; published = m.published - many }
+  done q x = record { nodes = set q.nodes (suc k) x; regions = q.regions; region_count = q.region_count; published = q.published - many }
 
   done_given : Given after (record { nodes = closed_at lowered (suc k); regions = pad region_places no_region (runs 0 (rows after)); region_count = length (runs 0 (rows after)); published = m.published - many })
   done_given = record {
@@ -164,13 +164,10 @@ module _ (m : Model) (S : Sound m) where
   pub closable_used : (k : ℕ) → Closable m.nodes k → Used m.nodes k
   closable_used k C = open_used m.nodes k C.opens
 
-  pub closable_small : (k : ℕ) → Closable m.nodes k → k < 256
-  closable_small k C = used_small m.nodes S.well k (closable_used k C)
-
   -- a model with the same nodes lets the totals be lowered
-  pub totals_ask : (k : ℕ) → Closable m.nodes k → (rest : Model) (gs : List Region) → rest ≡ laid m gs → WellFormed rest.nodes × (Used rest.nodes k × AllMovable false (direct_of m.nodes k) rest.nodes k)
+  pub totals_ask : (k : ℕ) → Closable m.nodes k → (rest : Model) (gs : List Region) → rest ≡ laid m gs → AllMovable false (direct_of m.nodes k) rest.nodes k
   totals_ask zero C rest gs e = absurd (omega (arith, C.above))
-  totals_ask (suc k) C rest gs e = rw e (S.well, (closable_used (suc k) C, many_above m S k C.opens C.none))
+  totals_ask (suc k) C rest gs e = rw e (many_above m S k C.opens C.none)
 
   pub published_asks : (k : ℕ) → Closable m.nodes k → direct_of m.nodes k ≤ m.published
   published_asks zero C = absurd (omega (arith, C.above))
@@ -184,6 +181,10 @@ module _ (m : Model) (S : Sound m) where
       → moved ≡ with_nodes rest (moved_above false (direct_of m.nodes k) depth rest.nodes k)
       → q ≡ with_nodes moved (free_below k moved.nodes)
       → x ≡ or_none (with_open false (node_at m.nodes k))
-      → record { nodes = set q.nodes k x; regions = q.regions; region_count = q.region_count; published = m.published - direct_of m.nodes k } ≡ settle (closed_at m.nodes k)
+      → record { nodes = set q.nodes k x; regions = q.regions; region_count = q.region_count; published = q.published - direct_of m.nodes k } ≡ settle (closed_at m.nodes k)
   closed_in_place zero C rest moved q x e₁ e₂ e₃ e₄ = absurd (omega (arith, C.above))
   closed_in_place (suc k) C rest moved q x e₁ e₂ e₃ e₄ = close_done m S k C.opens C.none rest moved q x e₁ e₂ e₃ e₄
+
+  -- the closed node's number is a place
+  pub closable_small : (k : ℕ) → Closable m.nodes k → k < 256
+  closable_small k C = used_small m.nodes S.well k (closable_used k C)

@@ -11,28 +11,13 @@ use lib.Seq.{take-suc, drop-cons, take-length, drop-length, get_or_at, set_at, l
 use lib.Dec.{eqb}
 use borrow.Author.Tests.{eq-eqb, ne_eqb}
 use Rattle.model.specs.declared.Node.{Node}
-use Rattle.model.specs.declared.Model.{Model}
 use Rattle.model.specs.Nodes.{no_node, node_at, with_open, or_none}
 use Rattle.model.specs.Close.{free_below}
-use Rattle.steps.specs.Settled.{with_nodes}
 use Rattle.steps.proofs.Closing.{length_free}
 
--- what a closing leaves of a node
-pub shut_ongoing : (n : Node) → n.ongoing ≡ true → with_open false n ≡ or_none (with_open false n)
-shut_ongoing n e = rw e
-
-pub shut_complete : (n x : Node) → n.ongoing ≡ false → x ≡ no_node → x ≡ or_none (with_open false n)
-shut_complete n x e f = f ∙ rw e
-
--- and of a node that may be a child
+-- what a closing leaves of a node that may be a child
 abbrev pub unless_child : ℕ → Node → Node
 unless_child p n = cond (eqb n.parent p) no_node n
-
-pub child_freed : (n x : Node) (p : ℕ) → n.parent ≡ p → x ≡ no_node → x ≡ unless_child p n
-child_freed n x p e f = f ∙ rw (eq-eqb n.parent p e)
-
-pub other_kept : (n : Node) (p : ℕ) → n.parent ≢ p → n ≡ unless_child p n
-other_kept n p e = rw (ne_eqb n.parent p e)
 
 -- the nodes of which the first k are done
 abbrev pub freed_to : ℕ → List Node → ℕ → List Node
@@ -70,11 +55,20 @@ module _ (p : ℕ) (ns : List Node) (k : ℕ) (h : k < length ns) where
       ∙ ap (freed_to p ns) (sym (add-one k))
 
 -- one turn of the loop
-pub free_turn : (p : ℕ) (m q : Model) (k : ℕ) (x : Node) → k < length m.nodes → q ≡ with_nodes m (freed_to p m.nodes k) → x ≡ unless_child p (node_at q.nodes k)
-    → with_nodes q (set q.nodes k x) ≡ with_nodes m (freed_to p m.nodes (k + 1))
-free_turn p m q k x h e f =
-    let ns = m.nodes in
-    let g : x ≡ unless_child p (node_at ns k) = f ∙ ap (λ (r : Model). unless_child p (node_at r.nodes k)) e ∙ ap (unless_child p) (freed_at p ns k h) in
-    ap (λ (r : Model). with_nodes r (set r.nodes k x)) e
-    ∙ ap (λ (y : Node). with_nodes m (set (freed_to p ns k) k y)) g
-    ∙ ap (with_nodes m) (freed_next p ns k h)
+pub free_turn : (p : ℕ) (ns xs : List Node) (k : ℕ) (x : Node) → k < length ns → xs ≡ freed_to p ns k → x ≡ unless_child p (node_at xs k) → set xs k x ≡ freed_to p ns (k + 1)
+free_turn p ns xs k x h e f =
+    let g : x ≡ unless_child p (node_at ns k) = f ∙ ap (λ (l : List Node). unless_child p (node_at l k)) e ∙ ap (unless_child p) (freed_at p ns k h) in
+    rw (e, g) (freed_next p ns k h)
+
+-- what a closing leaves of the node and of one that may be a child, where the tests of ongoing and of the parent are answered
+pub shut_ongoing : (n : Node) → n.ongoing ≡ true → with_open false n ≡ or_none (with_open false n)
+shut_ongoing n e = rw e
+
+pub shut_complete : (n x : Node) → n.ongoing ≡ false → x ≡ no_node → x ≡ or_none (with_open false n)
+shut_complete n x e f = f ∙ rw e
+
+pub child_freed : (n x : Node) (p : ℕ) → n.parent ≡ p → x ≡ no_node → x ≡ unless_child p n
+child_freed n x p e f = f ∙ rw (eq-eqb n.parent p e)
+
+pub other_kept : (n : Node) (p : ℕ) → n.parent ≢ p → n ≡ unless_child p n
+other_kept n p e = rw (ne_eqb n.parent p e)

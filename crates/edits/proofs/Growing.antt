@@ -1,30 +1,32 @@
 -- A sound model whose open node grows: where the new rows go, what they make of the regions, and the whole as it settles.
 use Prim.Native.Nat.{ℕ, zero, suc, ◌+◌, ◌-◌, ◌^◌, ◌≤◌, ◌<◌}
 use native.Mathlib.Omega.{arith}
-use native.Mathlib.Decide.{dec_lt}
 use mathlib.Core.Path.{◌≡◌, refl, sym, ap, ◌∙◌}
 use mathlib.Core.List.{List, ◌++◌, append_assoc}
 use lib.ListN.{length, take, drop, set}
 use Rattle.model.specs.declared.Node.{Node}
 use Rattle.model.specs.declared.Model.{Model}
-use Rattle.model.specs.declared.RegionAt.TheVariants.{At, None}
+use Rattle.model.specs.declared.RowNumber.{RowNumber}
+use Rattle.std.specs.Prelude.{Option, Some, None}
+use Rattle.std.specs.Option.{unwrap_or}
 use Rattle.model.specs.Places.{region_places, row_limit}
 use Rattle.model.specs.Nodes.{node_at, direct_of, with_direct}
 use Rattle.model.specs.Rows.{Row, rows, row_total, row_of, total_of}
 use Rattle.model.specs.Regions.{runs}
 use Rattle.model.specs.Settle.{settle}
 use Rattle.model.specs.Update.{end_of}
-use Rattle.runs.specs.Regions.{stretch, total, Tiled, Tidy}
+use Rattle.runs.specs.Regions.{stretch, total}
 use Rattle.runs.specs.Search.{region_at}
 use Rattle.runs.specs.Changes.{joined, grown}
-use Rattle.runs.specs.Laid.{live, laid, Laid}
-use Rattle.runs.proofs.Rows.{settle_laid, rows_live, rows_laid, rows_normal, rows_total, find_none, find_past, grow_runs, grow_found, grow_past}
+use Rattle.runs.specs.Laid.{live, laid}
+use Rattle.runs.proofs.Rows.{grow_runs, grow_found, grow_past}
 use Rattle.runs.proofs.Search.{at_holds}
 use Rattle.tree.specs.WellFormed.{Opens}
 use Rattle.tree.proofs.WellFormed.{open_used, used_small}
 use Rattle.tree.proofs.Regions.{regions_fit}
-use Rattle.tree.proofs.Rows.{rows_tidy, end_fits}
+use Rattle.tree.proofs.Rows.{end_fits}
 use Rattle.steps.specs.Settled.{Sound, with_nodes}
+use Rattle.steps.proofs.SoundRegions.{few, neat, laid_rows, sound_laid, sound_regions, sound_total, row_none, found_inside}
 use Rattle.steps.proofs.Settling.{sound_given, given_settle}
 use Rattle.steps.proofs.Growing.{grow_rows, grow_row_total}
 use Rattle.steps.proofs.Totals.{grow_totalled}
@@ -36,27 +38,9 @@ module _ (m : Model) (S : Sound m) where
   abbrev ns : List Node
   ns = m.nodes
 
-  laid_rows : m ≡ laid m (runs 0 (rows ns))
-  laid_rows = settle_laid m ns S.is
-
-  few : length (runs 0 (rows ns)) ≤ region_places
-  few = omega (arith, regions_fit ns S.well)
-
-  neat : Tidy (rows ns)
-  neat = rows_tidy ns S.well
-
-  pub sound_laid : Laid m
-  sound_laid = rows_laid m (rows ns) laid_rows few neat
-
-  pub sound_tiled : Tiled 0 (live m)
-  sound_tiled = (rows_normal m (rows ns) laid_rows few neat).tiled
-
   -- room for a region more
   pub sound_few : length (live m) < region_places
-  sound_few = omega (arith, ap length (rows_live m (rows ns) laid_rows few neat), regions_fit ns S.well)
-
-  pub sound_total : total (live m) ≡ row_total ns
-  sound_total = rows_total m (rows ns) laid_rows few neat
+  sound_few = omega (arith, ap length (sound_regions m S), regions_fit ns S.well)
 
   module _ (k : ℕ) (o : Opens ns k) where
     -- the end, as it is worked out from what the model holds
@@ -64,9 +48,9 @@ module _ (m : Model) (S : Sound m) where
     unfolding end_of
     end_root e = rw e (sound_given m S).published
 
-    pub end_node : (k ≡ 0 → ⊥) → row_of ns k + 1 + (node_at ns k).total ≡ end_of ns k
+    pub end_row : (k ≡ 0 → ⊥) → (x : RowNumber) → x ≡ record { 0 = row_of ns k } → x.0 + 1 + (node_at ns k).total ≡ end_of ns k
     unfolding end_of
-    end_node n = go k n o
+    end_row n x e = ap (λ (y : RowNumber). y.0 + 1 + (node_at ns k).total) e ∙ go k n o
       where
         go : (k : ℕ) → (k ≡ 0 → ⊥) → Opens ns k → row_of ns k + 1 + (node_at ns k).total ≡ end_of ns k
         go zero n o = absurd (n refl)
@@ -83,27 +67,18 @@ module _ (m : Model) (S : Sound m) where
         go zero o = unfold rows total_of in omega (arith, (sound_given m S).totals.total 0 (open_used ns 0 o))
         go (suc k) o = omega (arith, (sound_given m S).totals.total (suc k) (open_used ns (suc k) o), end_fits ns S.well (suc k) o)
 
-    -- the region that starts there, or none
-    pub end_found : (i : ℕ) → region_at (live m) (end_of ns k) ≡ At i → (i ≤ length (live m)) × (total (take i (live m)) ≡ end_of ns k)
-    end_found i h = ((omega (arith, (at_holds (live m) (end_of ns k) i h).below)), go (dec_lt (end_of ns k) (row_total ns)))
-      where
-        inside : (k : ℕ) → Opens ns k → region_at (live m) (end_of ns k) ≡ At i → end_of ns k < row_total ns → total (take i (live m)) ≡ end_of ns k
-        inside zero o h l = absurd (unfold end_of in omega arith)
-        inside (suc k) o h l = grow_found m (rows ns) laid_rows few neat (end_of ns (suc k)) i (0, 0) h (omega (arith, end_after ns S.well k o)) (end_parted ns S.well k o l)
-
-        go : Dec (end_of ns k < row_total ns) → total (take i (live m)) ≡ end_of ns k
-        go (yes l) = inside k o h l
-        go (no n) =
-            let none : region_at (live m) (end_of ns k) ≡ None = find_past m (rows ns) laid_rows few neat (end_of ns k) (omega arith) in
-            let z : ◌≡◌ {A = ℕ} 0 1 = cc in
-            absurd (omega arith)
-
-    pub end_none : region_at (live m) (end_of ns k) ≡ None → (m.region_count ≤ length (live m)) × (total (take m.region_count (live m)) ≡ end_of ns k)
-    end_none h =
-        let c : m.region_count ≡ length (live m) = ap (λ (r : Model). r.region_count) sound_laid in (
-          (omega arith),
-          grow_past m (rows ns) laid_rows few neat m.region_count (omega arith) ∙ (let p = find_none m (rows ns) laid_rows few neat (end_of ns k) h in omega (arith, end_fits ns S.well k o)),
+    -- the place of the region that starts there, or the place after the last
+    pub end_place : (r : Option ℕ) → r ≡ region_at (live m) (end_of ns k) → (unwrap_or r m.region_count ≤ length (live m)) × (total (take (unwrap_or r m.region_count) (live m)) ≡ end_of ns k)
+    end_place None e =
+        let c : m.region_count ≡ length (live m) = ap (λ (q : Model). q.region_count) (sound_laid m S) in (
+          omega arith,
+          grow_past m (rows ns) (laid_rows m S) (few m S) (neat m S) m.region_count (omega arith) ∙ (let p = row_none m S (end_of ns k) (sym e) in omega (arith, end_fits ns S.well k o)),
         )
+    end_place (Some i) e = (omega (arith, (at_holds (live m) (end_of ns k) i (sym e)).below), go k o (sym e) (found_inside m S (end_of ns k) i (sym e)))
+      where
+        go : (k : ℕ) → Opens ns k → region_at (live m) (end_of ns k) ≡ Some i → end_of ns k < row_total ns → total (take i (live m)) ≡ end_of ns k
+        go zero o h l = absurd (unfold end_of in omega arith)
+        go (suc k) o h l = grow_found m (rows ns) (laid_rows m S) (few m S) (neat m S) (end_of ns (suc k)) i (0, 0) h (omega (arith, end_after ns S.well k o)) (end_parted ns S.well k o l)
 
 module _ (m : Model) (k count : ℕ) (G : Growable m k count) where
   abbrev more : ℕ
@@ -111,9 +86,6 @@ module _ (m : Model) (k count : ℕ) (G : Growable m k count) where
 
   abbrev after : List Node
   after = set m.nodes k (with_direct count (node_at m.nodes k))
-
-  pub node_small : k < 256
-  node_small = used_small m.nodes G.sound.well k (open_used m.nodes k G.opens)
 
   pub raisable : Raisable m.nodes k count
   raisable = record {
@@ -162,7 +134,11 @@ module _ (m : Model) (k count : ℕ) (G : Growable m k count) where
     pub placed_raisable : Raisable placed.nodes k count
     placed_raisable = rw p raisable
 
-    pub grown_model : q ≡ with_nodes placed (raised placed.nodes k count) → record { nodes = q.nodes; regions = q.regions; region_count = q.region_count; published = m.published + more } ≡ settle after
+    pub grown_model : q ≡ with_nodes placed (raised placed.nodes k count) → record { nodes = q.nodes; regions = q.regions; region_count = q.region_count; published = q.published + more } ≡ settle after
     grown_model e =
-        ap (λ (r : Model). record { nodes = r.nodes; regions = r.regions; region_count = r.region_count; published = m.published + more }) (e ∙ ap (λ (r : Model). with_nodes r (raised r.nodes k count)) p)
+        ap (λ (r : Model). record { nodes = r.nodes; regions = r.regions; region_count = r.region_count; published = r.published + more }) (e ∙ ap (λ (r : Model). with_nodes r (raised r.nodes k count)) p)
         ∙ grown_settles
+
+  -- the grown node's number is a place
+  pub node_small : k < 256
+  node_small = used_small m.nodes G.sound.well k (open_used m.nodes k G.opens)

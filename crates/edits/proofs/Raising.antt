@@ -9,6 +9,8 @@ use mathlib.Core.List.{List}
 use lib.ListN.{set}
 use Rattle.lists.proofs.Bools.{bool, differ}
 use Rattle.model.specs.declared.Node.{Node}
+use Rattle.model.specs.declared.Model.{Model}
+use Rattle.model.specs.Places.{depth}
 use Rattle.model.specs.Nodes.{node_at, direct_of, used, with_direct, with_total}
 use Rattle.tree.specs.WellFormed.{Used, Opens, up, WellFormed}
 use Rattle.tree.specs.Paths.{Over, here, step}
@@ -19,8 +21,6 @@ use Rattle.steps.specs.Changes.{Put, bare, Bare}
 use Rattle.steps.specs.Settled.{Raised, with_nodes}
 use Rattle.steps.proofs.Put.{put_own, put_same, put_other, put_used, put_well}
 use Rattle.totals.specs.Totals.{moved_above, Above, AllMovable}
-use Rattle.model.specs.declared.Model.{Model}
-use Rattle.model.specs.Places.{depth}
 use Rattle.totals.proofs.Moves.{moved_above_lem, kept_else, moved_long}
 use Rattle.edits.specs.Growing.{grown_node, raised, Raisable}
 use Rattle.edits.proofs.InPlace.{bare_put}
@@ -167,12 +167,13 @@ module _ (ns : List Node) (k count : ℕ) (R : Raisable ns k count) where
           let d : j ≢ k = λ e. v (here (sym e)) in
           ap (λ (n : Node). n.total) (kept j (λ a. v (over_same stored ns same_up j k (above_over stored stored_well k stored_open j a))) ∙ stored_other j d ∙ sym (put_other ns w k grown grown_own j d))
 
+  -- what the climb asks, where the node stored is a value that equals it
+  pub raise_requires : (n : Node) → n ≡ grown_node count (node_at ns k) → WellFormed (set ns k n) × AllMovable true more (set ns k n) k
+  raise_requires n e = rw e (stored_well, stored_movable)
+
+  -- the grown node's number is a place, and a climb from a value that equals the node stored raises the totals
   pub raise_small : k < 256
   raise_small = used_small ns w k (open_used ns k R.opens)
-
-  -- what the climb asks, where the node stored is a value that equals it
-  pub raise_requires : (n : Node) → n ≡ grown_node count (node_at ns k) → WellFormed (set ns k n) × (Used (set ns k n) k × AllMovable true more (set ns k n) k)
-  raise_requires n e = rw e (stored_well, (stored_used, stored_movable))
 
 pub raise_returns : (m : Model) (k count : ℕ) (n : Node) → n ≡ grown_node count (node_at m.nodes k) → with_nodes m (moved_above true (count - direct_of m.nodes k) depth (set m.nodes k n) k) ≡ with_nodes m (raised m.nodes k count)
 raise_returns m k count n e = ap (λ (x : Node). with_nodes m (moved_above true (count - direct_of m.nodes k) depth (set m.nodes k x) k)) e

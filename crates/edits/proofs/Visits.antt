@@ -46,9 +46,6 @@ visited_freed : (count : ℕ) (n : Node) → is_open n ≡ false → visited cou
 visited_freed count n c = visited_complete count n ∙ ap (λ (b : Bool). cond (b || false) (with_direct count (with_ongoing false n)) no_node) c
 
 module _ (m : Model) (S : Sound m) (k : ℕ) where
-  pub used_place : Used m.nodes k → k < 256
-  used_place u = used_small m.nodes S.well k u
-
   pub version_settles : (v : ℕ) → 0 < k → Used m.nodes k → with_nodes m (set m.nodes k (with_version v (node_at m.nodes k))) ≡ settle (set m.nodes k (with_version v (node_at m.nodes k)))
   version_settles v h u = sym (quiet_in_place m S (set m.nodes k (with_version v (node_at m.nodes k))) (quiet k h u) (same_totals m S k (with_version v (node_at m.nodes k)) u refl refl refl))
     where
@@ -58,9 +55,6 @@ module _ (m : Model) (S : Sound m) (k : ℕ) where
 
   pub complete_settles : Opens m.nodes k → with_nodes m (set m.nodes k (with_ongoing false (node_at m.nodes k))) ≡ settle (set m.nodes k (with_ongoing false (node_at m.nodes k)))
   complete_settles o = sym (quiet_in_place m S (set m.nodes k (with_ongoing false (node_at m.nodes k))) (quiet_ongoing m.nodes S.well k false o) (same_totals m S k (with_ongoing false (node_at m.nodes k)) (open_used m.nodes k o) refl refl refl))
-
-  pub same_settles : (count : ℕ) → count ≡ direct_of m.nodes k → m ≡ settle (set m.nodes k (with_direct count (node_at m.nodes k)))
-  same_settles count e = S.is ∙ sym (ap settle (ap (λ (c : ℕ). set m.nodes k (with_direct c (node_at m.nodes k))) e ∙ set-get_or m.nodes k no_node))
 
 module _ (m : Model) (k count : ℕ) (G : Visitable m k count) where
   abbrev ns : List Node
@@ -79,9 +73,6 @@ module _ (m : Model) (k count : ℕ) (G : Visitable m k count) where
     P : Put ns k (with_direct count n)
     P = grown_put ns w k count n.ongoing o G.more
 
-    pub visit_growable : (count ≡ n.direct → ⊥) → Growable m k count
-    visit_growable d = record { sound = G.sound; opens = o; more = omega (arith, G.more); limit = G.limit o }
-
     after_sound : Sound (settle after)
     after_sound =
         settle_sound after (put_well ns w k (with_direct count n) P)
@@ -92,9 +83,6 @@ module _ (m : Model) (k count : ℕ) (G : Visitable m k count) where
 
     pub grown_ready : (q : Model) → q ≡ settle after → Sound q × Opens q.nodes k
     grown_ready q e = rw e (after_sound, after_open)
-
-    pub still_open : (b : Bool) → b ≡ true → settle after ≡ settle (set ns k (visited count b n))
-    still_open b e = ap (λ (x : Node). settle (set ns k x)) (sym (visited_still count n G.live) ∙ ap (λ (c : Bool). visited count c n) (sym e))
 
     pub complete_open : (b : Bool) → b ≡ false → (q : Model) → q ≡ settle after → settle (set q.nodes k (with_ongoing false (node_at q.nodes k))) ≡ settle (set ns k (visited count b n))
     complete_open b e q d =
@@ -135,3 +123,18 @@ module _ (m : Model) (k count : ℕ) (G : Visitable m k count) where
         go : (k : ℕ) → is_open (node_at ns k) ≡ false → k < 256 → with_nodes m (set ns k no_node) ≡ settle (set ns k no_node)
         go zero c h = absurd (differ (zero_open ns w) c)
         go (suc k) c h = sym (quiet_in_place m G.sound (set ns (suc k) no_node) (quiet_freed ns w k h c) (freed_totals m G.sound k h))
+
+  -- what the tests of a visited node say: that it grows, that its item is still ongoing, that its number is a place, that its count stays
+  module _ (o : Opens ns k) where
+    pub visit_growable : (count ≡ n.direct → ⊥) → Growable m k count
+    visit_growable d = record { sound = G.sound; opens = o; more = omega (arith, G.more); limit = G.limit o }
+
+    pub still_open : (b : Bool) → b ≡ true → settle (after o) ≡ settle (set ns k (visited count b n))
+    still_open b e = ap (λ (x : Node). settle (set ns k x)) (sym (visited_still count n G.live) ∙ ap (λ (c : Bool). visited count c n) (sym e))
+
+module _ (m : Model) (S : Sound m) (k : ℕ) where
+  pub used_place : Used m.nodes k → k < 256
+  used_place u = used_small m.nodes S.well k u
+
+  pub same_settles : (count : ℕ) → count ≡ direct_of m.nodes k → m ≡ settle (set m.nodes k (with_direct count (node_at m.nodes k)))
+  same_settles count e = S.is ∙ sym (ap settle (ap (λ (c : ℕ). set m.nodes k (with_direct c (node_at m.nodes k))) e ∙ set-get_or m.nodes k no_node))

@@ -10,33 +10,25 @@ ghost use Rattle.steps.specs.Changes.{closed_at};
 ghost use Rattle.steps.specs.Settled.{Sound, with_nodes};
 ghost use Rattle.edits.specs.Closable.{Closable};
 
-use model::{Model, Node, RegionAt, RowNumber};
+use model::{Model, Node, RowNumber};
 use nodes::no_node;
 
 // The node closed: it stays only if it is ongoing.
 fn shut_node(n: Node) -> Node
     ensures { result ≡ or_none (with_open false n) }
 {
-    let none = no_node();
-    let shut = Node {
-        parent: n.parent,
-        index: n.index,
-        entry: n.entry,
-        direct: n.direct,
-        total: n.total,
-        version: n.version,
-        open: false,
-        ongoing: n.ongoing,
-    };
-    if n.ongoing { shut } else { none }
+    if n.ongoing {
+        Node { open: false, ..n }
+    } else {
+        no_node()
+    }
 }
 
 // What is left of a node when the children of `parent` are freed, also the followed ones.
 fn unless_child(n: Node, parent: u64) -> Node
     ensures { result ≡ cond (eqb n.parent parent) no_node n }
 {
-    let none = no_node();
-    if n.parent == parent { none } else { n }
+    if n.parent == parent { no_node() } else { n }
 }
 
 // The child nodes of a node are freed.
@@ -44,11 +36,8 @@ fn free_children(m: Model, node: u64) -> Model
     ensures { result ≡ with_nodes m (free_below node m.nodes) }
 {
     let mut q = m;
-    let mut i: usize = 0;
-    while i < 256 {
-        let n = q.nodes[i];
-        q.nodes[i] = unless_child(n, node);
-        i += 1;
+    for n in &mut q.nodes {
+        *n = unless_child(*n, node);
     }
     q
 }
@@ -61,7 +50,7 @@ fn remove_children(m: Model, node: u64) -> Model
 {
     let row = totals::row_of(m, node);
     let first = RowNumber(row.0 + 1);
-    let RegionAt::At(place) = regions::find_region(m, first) else {
+    let Some(place) = regions::find_region(m, first) else {
         return m;
     };
     regions::collapse(m, place)
@@ -78,6 +67,6 @@ pub fn close_node(m: Model, node: u64) -> Model
     let moved = totals::update_total(rest, node, false, n.direct);
     let mut q = free_children(moved, node);
     q.nodes[node as usize] = shut_node(n);
-    q.published = m.published - n.direct;
+    q.published -= n.direct;
     q
 }

@@ -1,5 +1,8 @@
 // Steps of the operations carried out in place, as the Rust does: the nodes, the totals up the chain, the
 // regions and the published count are edited, and the model ends as its new nodes give it.
+//
+// Each takes any `Model`, with soundness and what holds of the node as clauses: docs/PROMISES.md relies on these
+// functions, and a type with that invariant would ask more of a caller.
 #![tactic(auto)]
 
 mod closed;

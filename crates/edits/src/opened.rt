@@ -10,16 +10,7 @@ use model::{Model, Node, RowNumber};
 fn opened(n: Node) -> Node
     ensures { result ≡ with_open true n }
 {
-    Node {
-        parent: n.parent,
-        index: n.index,
-        entry: n.entry,
-        direct: n.direct,
-        total: n.total,
-        version: n.version,
-        open: true,
-        ongoing: n.ongoing,
-    }
+    Node { open: true, ..n }
 }
 
 // Node n, of a row that the region at a place holds, is put open at a number, and its children become rows.
@@ -31,6 +22,6 @@ pub fn open_node(m: Model, place: usize, row: RowNumber, node: u64, n: Node) -> 
     put.nodes[node as usize] = opened(n);
     let raised = totals::update_total(put, node, true, n.direct);
     let mut q = regions::expand(raised, place, row, node, n.direct);
-    q.published = m.published + n.direct;
+    q.published += n.direct;
     q
 }

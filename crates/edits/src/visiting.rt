@@ -1,6 +1,6 @@
 // The steps of an update's visit of a node.
-ghost use Rattle.std.specs.Prelude.{◌≤◌, ◌<◌, ◌≡◌, true, false, set};
-ghost use Rattle.model.specs.Nodes.{no_node, node_at, direct_of, is_open, with_version, with_direct, with_ongoing, with_total};
+ghost use Rattle.std.specs.Prelude.{◌<◌, ◌≡◌, false, set};
+ghost use Rattle.model.specs.Nodes.{node_at, is_open, with_version, with_direct, with_ongoing, with_total};
 ghost use Rattle.model.specs.Settle.{settle};
 ghost use Rattle.tree.specs.WellFormed.{Used, Opens};
 ghost use Rattle.steps.specs.Settled.{Sound};
@@ -8,6 +8,7 @@ ghost use Rattle.edits.specs.Visiting.{visited, Visitable};
 
 use crate::grown::grow_node;
 use model::{Model, Node};
+use nodes::no_node;
 
 // A row's node records a version.
 pub fn set_version(m: Model, k: u64, version: u64) -> Model
@@ -39,31 +40,31 @@ fn grow_open(m: Model, k: u64, count: u64) -> Model
     ensures { result ≡ settle (set m.nodes k (with_direct count (node_at m.nodes k))) }
 {
     if count == m.nodes[k as usize].direct {
-        return m;
+        m
+    } else {
+        grow_node(m, k, count)
     }
-    grow_node(m, k, count)
 }
 
+// An open node records its count, its new rows with it, and is ongoing no longer if its item is complete.
 fn step_open(m: Model, k: u64, count: u64, ongoing: bool) -> Model
     requires visitable { Visitable m k count }
     requires opens { Opens m.nodes k }
     ensures { result ≡ settle (set m.nodes k (visited count ongoing (node_at m.nodes k))) }
 {
     let q = grow_open(m, k, count);
-    if ongoing {
-        return q;
-    }
-    complete(q, k)
+    if ongoing { q } else { complete(q, k) }
 }
 
 // A closed node with another count, which is its total too.
 fn counted(n: Node, count: u64) -> Node
     ensures { result ≡ with_total count (with_direct count n) }
 {
-    let mut q = n;
-    q.direct = count;
-    q.total = count;
-    q
+    Node {
+        direct: count,
+        total: count,
+        ..n
+    }
 }
 
 // A closed node records its count, and is freed if it is complete.
@@ -72,20 +73,12 @@ fn step_closed(m: Model, k: u64, count: u64, ongoing: bool) -> Model
     requires k_value { is_open (node_at m.nodes k) ≡ false }
     ensures { result ≡ settle (set m.nodes k (visited count ongoing (node_at m.nodes k))) }
 {
+    let n = m.nodes[k as usize];
     let mut q = m;
-    if ongoing {
-        q.nodes[k as usize] = counted(m.nodes[k as usize], count);
-        return q;
-    }
-    q.nodes[k as usize] = Node {
-        parent: 0,
-        index: 0,
-        entry: 0,
-        direct: 0,
-        total: 0,
-        version: 0,
-        open: false,
-        ongoing: false,
+    q.nodes[k as usize] = if ongoing {
+        counted(n, count)
+    } else {
+        no_node()
     };
     q
 }
@@ -96,7 +89,8 @@ pub fn grow_step(m: Model, k: u64, count: u64, ongoing: bool) -> Model
     ensures { result ≡ settle (set m.nodes k (visited count ongoing (node_at m.nodes k))) }
 {
     if m.nodes[k as usize].open {
-        return step_open(m, k, count, ongoing);
+        step_open(m, k, count, ongoing)
+    } else {
+        step_closed(m, k, count, ongoing)
     }
-    step_closed(m, k, count, ongoing)
 }

@@ -4,3 +4,5 @@ pub mod Search
 pub mod Everything
 pub mod Cases
 pub mod Corners
+pub mod Zeros
+pub mod UnlessZero

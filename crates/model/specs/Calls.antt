@@ -3,13 +3,8 @@ use Rattle.std.specs.Prelude.{ℕ, Bool, true, false, ◌&&◌, List, [], ◌∷
 use Rattle.model.specs.declared.Model.{Model}
 use Rattle.model.specs.declared.Log.{Log}
 use Rattle.model.specs.declared.FetchedRow.{FetchedRow}
-use Rattle.model.specs.declared.ModelAnswer.{ModelAnswer}
-use Rattle.model.specs.declared.CountAnswer.{CountAnswer}
-use Rattle.model.specs.declared.FetchAnswer.{FetchAnswer}
-use Rattle.model.specs.declared.ChangeAnswer.{ChangeAnswer}
-use Rattle.model.specs.declared.UpdateAnswer.{UpdateAnswer}
+use Rattle.model.specs.Answers.{ModelAnswer, CountAnswer, FetchAnswer, ChangeAnswer, UpdateAnswer, no_row}
 use Rattle.model.specs.Logs.{log_of}
-use Rattle.model.specs.Answers.{no_row}
 use Rattle.model.specs.New.{zeros, answer_new}
 use Rattle.model.specs.Count.{answer_count}
 use Rattle.model.specs.Fetch.{answer_fetch}

@@ -3,14 +3,13 @@ use Rattle.std.specs.Prelude.{ℕ, zero, suc, false, cond, not, set, eqb, leb}
 use mathlib.Core.List.{List, [], ◌∷◌, ◌++◌, flat_map}
 use Rattle.model.specs.declared.Node.{Node}
 use Rattle.model.specs.declared.Model.{Model}
-use Rattle.model.specs.declared.ChangeAnswer.{ChangeAnswer}
+use Rattle.model.specs.Answers.{ChangeAnswer, no_change, refuse_if}
 use Rattle.model.specs.Places.{depth}
 use Rattle.model.specs.Nodes.{no_node, node_at, is_open, open_child, children, with_open, or_none}
 use Rattle.model.specs.Rows.{row_total, row_at, row_of}
 use Rattle.model.specs.Settle.{settle}
 use Rattle.model.specs.Sound.{sound}
 use Rattle.model.specs.Logs.{rows_change, State, state}
-use Rattle.model.specs.Answers.{no_change, refuse_if}
 use Rattle.model.specs.Open.{changed}
 
 -- node k and the open nodes below it, inner ones first, to a depth of f

@@ -1,9 +1,8 @@
 -- Count (1): the published count; 0 when refused.
 use Rattle.std.specs.Prelude.{ℕ, not}
 use Rattle.model.specs.declared.Model.{Model}
-use Rattle.model.specs.declared.CountAnswer.{CountAnswer}
+use Rattle.model.specs.Answers.{CountAnswer, refuse_if}
 use Rattle.model.specs.Sound.{sound}
-use Rattle.model.specs.Answers.{refuse_if}
 
 abbrev pub counted : ℕ → ℕ → CountAnswer
 counted n c = record { refusal = n; count = c }

@@ -3,13 +3,13 @@ use Rattle.std.specs.Prelude.{ℕ, zero, suc, cond, not, ◌&&◌, false, List, 
 use Rattle.model.specs.declared.Node.{Node}
 use Rattle.model.specs.declared.Model.{Model}
 use Rattle.model.specs.declared.FetchedRow.{FetchedRow}
-use Rattle.model.specs.declared.FetchAnswer.{FetchAnswer}
+use Rattle.model.specs.Answers.{FetchAnswer, no_fetch, refuse_if}
+use Rattle.model.specs.Places.{unless_zero}
 use Rattle.model.specs.Table.{readable, child_entry, child_count, child_ongoing, child_version}
 use Rattle.model.specs.Nodes.{node_at, child, free}
 use Rattle.model.specs.Rows.{Row, row_total, row_at}
 use Rattle.model.specs.Settle.{settle}
 use Rattle.model.specs.Sound.{sound}
-use Rattle.model.specs.Answers.{no_fetch, refuse_if}
 
 -- child i of node p as the table has it: the node that its row would get
 unfoldable pub fresh : List ℕ → List Node → ℕ → ℕ → Node
@@ -42,7 +42,7 @@ shown ns n k =
       version = n.version;
       «open» = n.«open»;
       ongoing = n.ongoing;
-      node = k;
+      node = unless_zero k;
     }
 
 abbrev pub fetched : Model → FetchedRow → FetchAnswer

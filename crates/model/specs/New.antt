@@ -2,13 +2,12 @@
 use Rattle.std.specs.Prelude.{ℕ, true, not, List, ◌∷◌, replicate, ltb}
 use Rattle.model.specs.declared.Node.{Node}
 use Rattle.model.specs.declared.Model.{Model}
-use Rattle.model.specs.declared.ModelAnswer.{ModelAnswer}
+use Rattle.model.specs.Answers.{ModelAnswer, just_model, refuse_if}
 use Rattle.model.specs.Places.{node_places, region_places, longest_chain}
 use Rattle.model.specs.Table.{readable, item_count, item_ongoing}
 use Rattle.model.specs.Nodes.{no_node}
 use Rattle.model.specs.Regions.{no_region}
 use Rattle.model.specs.Settle.{settle}
-use Rattle.model.specs.Answers.{just_model, refuse_if}
 
 unfoldable pub zeros : Model
 zeros = record { nodes = replicate node_places no_node; regions = replicate region_places no_region; region_count = 0; published = 0 }

@@ -3,7 +3,7 @@ use Rattle.std.specs.Prelude.{ℕ, zero, suc, ◌+◌, true, cond, not, List, []
 use Rattle.model.specs.declared.Node.{Node}
 use Rattle.model.specs.declared.Model.{Model}
 use Rattle.model.specs.declared.Record.{Record}
-use Rattle.model.specs.declared.ChangeAnswer.{ChangeAnswer}
+use Rattle.model.specs.Answers.{ChangeAnswer, no_change, refuse_if}
 use Rattle.model.specs.Places.{row_limit}
 use Rattle.model.specs.Table.{readable}
 use Rattle.model.specs.Nodes.{child, free, with_open}
@@ -11,7 +11,6 @@ use Rattle.model.specs.Rows.{Row, row_total, row_at}
 use Rattle.model.specs.Settle.{settle}
 use Rattle.model.specs.Sound.{sound}
 use Rattle.model.specs.Logs.{rows_change, log_of}
-use Rattle.model.specs.Answers.{no_change, refuse_if}
 use Rattle.model.specs.Fetch.{node_or_fresh}
 
 abbrev pub changed : Model → List Record → ChangeAnswer

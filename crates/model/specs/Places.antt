@@ -1,5 +1,5 @@
 -- How many there can be: of nodes, regions, log records and rows.
-use Rattle.std.specs.Prelude.{ℕ, List, ◌++◌, take, replicate}
+use Rattle.std.specs.Prelude.{ℕ, zero, suc, Option, Some, None, List, ◌++◌, take, replicate}
 
 abbrev pub node_places : ℕ
 node_places = 256
@@ -25,3 +25,8 @@ depth = 256
 -- the first n of a list, with z where it ends before: a list laid into n places
 unfoldable pub pad : {A : Type 0} → ℕ → A → List A → List A
 pad n z xs = take n (xs ++ replicate n z)
+
+-- a number where 0 says "none", as an option
+abbrev pub unless_zero : ℕ → Option ℕ
+unless_zero zero = None
+unless_zero (suc k) = Some (suc k)

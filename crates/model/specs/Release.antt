@@ -1,12 +1,11 @@
 -- Release (1, 4, 9): frees a closed followed row's node; a row without a node is done.
 use Rattle.std.specs.Prelude.{ℕ, zero, suc, not, set, leb}
 use Rattle.model.specs.declared.Model.{Model}
-use Rattle.model.specs.declared.ModelAnswer.{ModelAnswer}
+use Rattle.model.specs.Answers.{ModelAnswer, just_model, refuse_if}
 use Rattle.model.specs.Nodes.{no_node, node_at, is_open, child}
 use Rattle.model.specs.Rows.{row_total, row_at}
 use Rattle.model.specs.Settle.{settle}
 use Rattle.model.specs.Sound.{sound}
-use Rattle.model.specs.Answers.{just_model, refuse_if}
 
 unfoldable pub release_node : Model → ℕ → ModelAnswer
 release_node m zero = just_model 0 m

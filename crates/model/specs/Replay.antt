@@ -5,6 +5,7 @@ use Rattle.model.specs.declared.Model.{Model}
 use Rattle.model.specs.declared.Record.{Record}
 use Rattle.model.specs.declared.Log.{Log}
 use Rattle.model.specs.Rows.{paths}
+use Rattle.model.specs.Logs.{kind_number}
 use Rattle.model.specs.Sound.{same_list}
 
 -- a row that the viewer holds: its path, or none while it is unread
@@ -14,8 +15,8 @@ Held = Option (List ℕ)
 -- the record speaks of rows that are there
 unfoldable pub fits : List Held → Record → Bool
 fits h x =
-    eqb x.kind 1 && leb (x.position + x.removed) (length h) ||
-    eqb x.kind 2 && ltb x.position (length h) && eqb x.removed 0 && eqb x.added 0
+    eqb (kind_number x.kind) 1 && leb (x.position + x.removed) (length h) ||
+    eqb (kind_number x.kind) 2 && ltb x.position (length h) && eqb x.removed 0 && eqb x.added 0
 
 -- from the position on, rows are removed, and others are added that are not yet read
 unfoldable pub replay_one : List Held → Record → List Held

@@ -5,7 +5,7 @@ use Rattle.model.specs.declared.Region.{Region}
 use Rattle.model.specs.declared.Model.{Model}
 use Rattle.model.specs.declared.Record.{Record}
 use Rattle.model.specs.declared.FetchedRow.{FetchedRow}
-use Rattle.model.specs.Places.{node_places, region_places, pad}
+use Rattle.model.specs.Places.{node_places, region_places, pad, unless_zero}
 use Rattle.model.specs.Nodes.{no_node}
 use Rattle.model.specs.Regions.{region, no_region}
 use Rattle.model.specs.Logs.{rows_change, text_change, log_of}
@@ -36,7 +36,7 @@ holding ns rs c =
 
 abbrev pub row : ℕ → ℕ → ℕ → ℕ → ℕ → Bool → Bool → ℕ → FetchedRow
 row p i e c v o g k =
-    record { parent_entry = p; index = record { 0 = i }; entry = e; count = c; version = v; «open» = o; ongoing = g; node = k }
+    record { parent_entry = p; index = record { 0 = i }; entry = e; count = c; version = v; «open» = o; ongoing = g; node = unless_zero k }
 
 -- the model after each case
 abbrev pub model_a : Model

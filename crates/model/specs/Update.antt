@@ -3,7 +3,9 @@ use Rattle.std.specs.Prelude.{ℕ, zero, suc, ◌+◌, ◌-◌, Bool, false, con
 use mathlib.Core.List.{List, [], ◌∷◌, ◌++◌, flat_map}
 use Rattle.model.specs.declared.Node.{Node}
 use Rattle.model.specs.declared.Model.{Model}
-use Rattle.model.specs.declared.UpdateAnswer.{UpdateAnswer}
+use Rattle.model.specs.declared.Step.{Step}
+use Rattle.model.specs.declared.Step.TheVariants.{Text, Grow}
+use Rattle.model.specs.Answers.{UpdateAnswer, no_update, refuse_if}
 use Rattle.model.specs.Places.{depth, row_limit}
 use Rattle.model.specs.Table.{entries, readable, item_count, item_ongoing, item_version}
 use Rattle.model.specs.Nodes.{node_at, is_open, is_ongoing, children, with_version, with_direct, with_ongoing, or_none}
@@ -11,21 +13,15 @@ use Rattle.model.specs.Rows.{row_total, row_of, total_of}
 use Rattle.model.specs.Settle.{settle}
 use Rattle.model.specs.Sound.{sound}
 use Rattle.model.specs.Logs.{rows_change, text_change, logged_if, State, state, log_of}
-use Rattle.model.specs.Answers.{no_update, refuse_if}
-
--- a visit is a text step first and a growth step last
-pub data Step : Type 0 where
-  text : ℕ → Step
-  grow : ℕ → Step
 
 -- the children that are visited below a visited node k
 abbrev pub followed : List Node → ℕ → List ℕ
 followed ns k = cond (is_open (node_at ns k)) (children is_ongoing ns k) []
 
--- the visit of node k: its text, the visits of its children, its growth; to a depth of f
+-- the visit of node k: its text step first, the visits of its children, its growth step last; to a depth of f
 unfoldable pub visit : List Node → ℕ → ℕ → List Step
 visit ns zero k = []
-visit ns (suc f) k = text k ∷ (flat_map (λ j. visit ns f j) (followed ns k) ++ (grow k ∷ []))
+visit ns (suc f) k = Text k ∷ (flat_map (λ j. visit ns f j) (followed ns k) ++ (Grow k ∷ []))
 
 -- all visits, as the nodes stood at the start
 abbrev pub visits : List Node → List Step
@@ -38,8 +34,8 @@ went_back t ns k =
 
 unfoldable pub any_went_back : List ℕ → List Node → List Step → Bool
 any_went_back t ns [] = false
-any_went_back t ns (text k ∷ es) = went_back t ns k || any_went_back t ns es
-any_went_back t ns (grow k ∷ es) = any_went_back t ns es
+any_went_back t ns (Text k ∷ es) = went_back t ns k || any_went_back t ns es
+any_went_back t ns (Grow k ∷ es) = any_went_back t ns es
 
 -- how many children were added
 abbrev pub added : List ℕ → Node → ℕ
@@ -70,8 +66,8 @@ grow_step t s k =
     (s.log ++ logged_if (n.«open» && ltb 0 (added t n)) (rows_change (end_of s.nodes k) 0 (added t n)))
 
 unfoldable pub step : List ℕ → State → Step → State
-step t s (text k) = text_step t s k
-step t s (grow k) = grow_step t s k
+step t s (Text k) = text_step t s k
+step t s (Grow k) = grow_step t s k
 
 unfoldable pub steps : List ℕ → State → List Step → State
 steps t s [] = s

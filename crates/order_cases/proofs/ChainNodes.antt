@@ -1,13 +1,12 @@
--- The chain is well-formed, by computation, and the loop makes it.
-use Prim.Native.Nat.{ℕ, zero, suc, ◌+◌, ◌<◌, ◌≤◌}
+-- The chain is well-formed, by computation, and what is made node by node is it.
+use Prim.Native.Nat.{ℕ, zero, suc, ◌+◌, ◌<◌}
 use native.Mathlib.Omega.{arith}
-use native.Mathlib.Decide.{ℕ_discrete}
 use native.Mathlib.Nat.{zero-add}
 use mathlib.Core.Path.{◌≡◌, refl, sym, ap, ◌∙◌}
 use mathlib.Core.Bool.{true}
 use mathlib.Core.List.{List}
-use lib.ListN.{length, set, length-set, length-replicate, replicate}
-use lib.Seq.{get_or-set_same, get_or-set_other, ext_get_or}
+use lib.ListN.{length}
+use lib.Seq.{ext_get_or}
 use Rattle.model.specs.declared.Node.{Node}
 use Rattle.model.specs.Nodes.{no_node, node_at, is_open, seek_from, seek, child_by}
 use Rattle.model.specs.Sound.{nodes_ok, node_ok, used_ok, capture_ok, reaches}
@@ -44,21 +43,5 @@ chain_well ns e = rw e (well_formed chain_nodes chain_long chain_tested)
 pub chain_open : (ns : List Node) → ns ≡ chain_nodes → Opens ns 1
 chain_open ns e = rw e (ap is_open (chain_at 1 (omega arith)))
 
--- the nodes below k are in place
-pub record Made (k : ℕ) (ns : List Node) : Type 0 where
-  pub long : length ns ≡ 256
-  pub nodes : (j : ℕ) → j < k → node_at ns j ≡ chain_node j
-
-pub made_none : (n : Node) → Made 0 (replicate 256 n)
-made_none n = record { long = length-replicate 256 n; nodes = λ j h. absurd (omega arith) }
-
-pub made_more : (k : ℕ) (ns : List Node) (n : Node) → Made k ns → k < 256 → n ≡ chain_node k → Made (k + 1) (set ns k n)
-made_more k ns n m h e = record { long = length-set ns k n ∙ m.long; nodes = λ j l. go j l (ℕ_discrete j k) }
-  where
-    go : (j : ℕ) → j < k + 1 → Dec (j ≡ k) → node_at (set ns k n) j ≡ chain_node j
-    go j l (yes q) = ap (node_at (set ns k n)) q ∙ get_or-set_same ns k n no_node (omega (arith, m.long)) ∙ e ∙ ap chain_node (sym q)
-    go j l (no q) = get_or-set_other ns k j n no_node q ∙ m.nodes j (omega arith)
-
-pub made_all : (k : ℕ) (ns : List Node) → Made k ns → 256 ≤ k → ns ≡ chain_nodes
-made_all k ns m h =
-    ext_get_or no_node ns chain_nodes (m.long ∙ sym chain_long) (λ i l. m.nodes i (omega (arith, m.long)) ∙ sym (chain_at i (omega (arith, m.long))))
+pub all_made : (ns : List Node) → length ns ≡ 256 → ((i : ℕ) → i < 256 → node_at ns i ≡ chain_node i) → ns ≡ chain_nodes
+all_made ns long at = ext_get_or no_node ns chain_nodes (long ∙ sym chain_long) (λ i l. at i (omega arith) ∙ sym (chain_at i (omega arith)))

@@ -1,33 +1,24 @@
-// 255 nested rows, each open and ongoing, through both orders: no model is deeper. Measured with the older
-// kit rattle-kit-5b, a stack of 128 KB is enough.
+// 255 nested rows, each open and ongoing, through both orders: no model is deeper.
 #![tactic(auto)]
 
-ghost use Rattle.std.specs.Prelude.{◌≡◌, ◌-◌};
+ghost use Rattle.std.specs.Prelude.{◌≡◌, ◌*◌, ◌+◌};
 ghost use Rattle.tree.specs.WellFormed.{WellFormed, Opens};
 ghost use Rattle.order_cases.specs.Chain.{chain_node, chain_nodes};
 
-use model::{Model, Node, Region};
-use std::io;
-
-fn above(k: u64) -> u64
-    ensures { result ≡ k - 1 }
-{
-    if 0 < k { k - 1 } else { 0 }
-}
+use model::{Model, Node, Step};
+use std::{array, io};
 
 // Node k, the only child of node k - 1.
 fn link(k: u64) -> Node
     ensures { result ≡ chain_node k }
 {
     Node {
-        parent: above(k),
-        index: 0,
+        parent: k.saturating_sub(1),
         entry: k,
         direct: 1,
-        total: 0,
-        version: 0,
         open: true,
         ongoing: true,
+        ..Node::default()
     }
 }
 
@@ -35,52 +26,49 @@ fn link(k: u64) -> Node
 fn chain() -> Model
     ensures { result.nodes ≡ chain_nodes }
 {
-    let g = Region {
-        start: 0,
-        node: 0,
-        offset: 0,
-        length: 0,
-    };
-    let mut m = Model {
-        nodes: [link(0); 256],
-        regions: [g; 512],
-        region_count: 0,
-        published: 0,
-    };
-    let mut k: usize = 0;
-    while k < 256 {
-        m.nodes[k] = link(k as u64);
-        k += 1;
+    Model {
+        nodes: array::from_fn(|k| link(k as u64)),
+        ..Model::default()
     }
-    m
 }
 
-fn say(rt: &impl Print, words: &[u8], n: u64) -> io::Result<()> {
-    rt.write_all(words)?;
-    print!(rt; "{n}")
+// Its number in the printed order: 2k for the text of node k, 2k + 1 for its growth.
+fn number(step: &Step) -> u64 {
+    match step {
+        Step::Text(k) => k.wrapping_mul(2),
+        Step::Grow(k) => k.wrapping_mul(2).wrapping_add(1),
+    }
 }
 
 fn close_outermost(rt: &impl Print, m: Model) -> io::Result<()>
     requires { WellFormed m.nodes × Opens m.nodes 1 }
 {
-    let o = orders::closing_order(m, 1);
-    say(rt, b"closing node 1: steps ", o.len)?;
-    say(rt, b", first ", o.steps[0])?;
-    say(rt, b", second ", o.steps[1])?;
-    say(rt, b", last ", o.steps[254])?;
-    rt.write_all(b"\n")
+    let order = orders::closing_order(m, 1);
+    let nodes = order.as_slice();
+    let at = |place: usize| -> u64 { nodes.get(place).copied().unwrap_or(0) };
+    println!(rt;
+        "closing node 1: steps {}, first {}, second {}, last {}",
+        nodes.len(),
+        at(0),
+        at(1),
+        at(254)
+    )
 }
 
 fn update(rt: &impl Print, m: Model) -> io::Result<()>
     requires { WellFormed m.nodes }
 {
-    let o = orders::visits(m);
-    say(rt, b"updating: steps ", o.len)?;
-    say(rt, b", first ", o.steps[0])?;
-    say(rt, b", innermost ", o.steps[255])?;
-    say(rt, b" and ", o.steps[256])?;
-    say(rt, b", last ", o.steps[511])?;
-    rt.write_all(b"\n")
+    let visits = orders::visits(m);
+    let steps = visits.as_slice();
+    let at = |place: usize| -> u64 { steps.get(place).map_or(0, number) };
+    println!(rt;
+        "updating: steps {}, first {}, innermost {} and {}, last {}",
+        steps.len(),
+        at(0),
+        at(255),
+        at(256),
+        at(511)
+    )
 }
 
 fn main(rt: HostRuntime) -> io::Result<()> {

@@ -1,8 +1,6 @@
-pub mod Distinct
-pub mod Children
-pub mod Columns
-pub mod NextChild
-pub mod Codes
-pub mod Writing
-pub mod Orders
+pub mod Along
 pub mod Answers
+pub mod Children
+pub mod Distinct
+pub mod NextChild
+pub mod Orders

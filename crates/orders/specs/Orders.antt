@@ -1,38 +1,27 @@
--- The orders as numbers: those of nodes for closing, and two to each visited node for updating.
-use Rattle.std.specs.Prelude.{ℕ, ◌+◌, ◌*◌, ◌/◌, ◌%◌, ◌≤◌, ◌≡◌, cond, length, take, eqb}
-use mathlib.Core.List.{List, map, flat_map}
-use Rattle.std.proofs.lemmas.List.Edits.{sets}
+-- What the recursions push, and how the search for the next child goes along the children of a node.
+use Rattle.std.specs.Prelude.{ℕ, ◌+◌, ◌-◌, ◌<◌, ◌≤◌, ◌≡◌, Bool, Option, Some, None}
+use mathlib.Core.List.{List, [], ◌∷◌, flat_map}
 use Rattle.model.specs.declared.Node.{Node}
-use Rattle.model.specs.Nodes.{is_ongoing, children}
-use Rattle.model.specs.Update.{Step, visit}
-use Rattle.model.specs.Update.Step.{text, grow}
-use Rattle.orders.specs.declared.Order.{Order}
+use Rattle.model.specs.Nodes.{node_at, children_from}
+use Rattle.model.specs.Update.{visit, followed}
+use Rattle.model.specs.declared.Step.{Step}
 
--- the number of an update's step, and the step that a number means
-unfoldable pub code : Step → ℕ
-code (text k) = 2 * k
-code (grow k) = 2 * k + 1
+-- the visits of the followed children of node k
+unfoldable pub followed_visits : List Node → ℕ → ℕ → List Step
+followed_visits ns f k = flat_map (λ j. visit ns f j) (followed ns k)
 
-unfoldable pub decode : ℕ → Step
-decode x = cond (eqb (x % 2) 0) (text (x / 2)) (grow (x / 2))
+-- the children of p that pass q, with an index from low on and below limit, in ascending index
+abbrev pub children_between : (Node → Bool) → List Node → ℕ → ℕ → ℕ → List ℕ
+children_between q ns p low limit = children_from q ns p low (limit - low)
 
-unfoldable pub codes : List Step → List ℕ
-codes es = map code es
+-- k is the first of these, and the others come after its index
+pub record First (q : Node → Bool) (ns : List Node) (p low limit k : ℕ) : Type 0 where
+  pub small : k < 256
+  pub from : low ≤ (node_at ns k).index
+  pub under : (node_at ns k).index < limit
+  pub rest : children_between q ns p low limit ≡ k ∷ children_between q ns p ((node_at ns k).index + 1) limit
 
--- the visit of node k, and the visits of its followed children, where all nodes are open
-unfoldable pub visit_codes : List Node → ℕ → ℕ → List ℕ
-visit_codes ns f k = codes (visit ns f k)
-
-unfoldable pub walk_codes : List Node → ℕ → ℕ → List ℕ
-walk_codes ns f k = flat_map (λ j. visit_codes ns f j) (children is_ongoing ns k)
-
--- out after the numbers of o were written at its places from `at` on, and r past them
-pub record Written (o : List ℕ) (out out' : List ℕ) (at r : ℕ) : Type 0 where
-  pub next : r ≡ at + length o
-  pub list : out' ≡ sets out at o
-
--- r holds the steps of o
-pub record Holds (r : Order) (o : List ℕ) : Type 0 where
-  pub short : r.len ≤ 512
-  pub count : r.len ≡ length o
-  pub exact : take r.len r.steps ≡ o
+-- the first of these, if there is one
+abbrev pub FirstIs : (Node → Bool) → List Node → ℕ → ℕ → ℕ → Option ℕ → Type 0
+FirstIs q ns p low limit None = children_between q ns p low limit ≡ []
+FirstIs q ns p low limit (Some k) = First q ns p low limit k

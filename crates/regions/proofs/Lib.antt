@@ -1,4 +1,4 @@
 -- What the functions' proofs need, over plain variables.
-pub mod Turns
+pub mod Holding
 pub mod Merging
 pub mod Steps

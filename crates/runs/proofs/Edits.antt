@@ -1,117 +1,37 @@
--- Lists that a loop edits, for any element type: a part mapped, an element put in, one taken out; and the same in a list laid into places.
+-- Edits of a list, for any element type: a part mapped, an element put in, one taken out; and the same in a list laid into places.
 use Prim.Native.Nat.{ℕ, zero, suc, ◌+◌, ◌-◌, ◌≤◌, ◌<◌}
-use native.Mathlib.Nat.{zero-add, suc-add}
 use native.Mathlib.Numerals.{add-one}
 use native.Mathlib.Omega.{arith}
 use mathlib.Core.Path.{◌≡◌, refl, ap, sym, subst, ◌∙◌}
 use mathlib.Core.List.{List, [], ◌∷◌, ◌++◌, map, append_assoc}
-use lib.ListN.{length, take, drop, get_or, set, replicate, get_or-append, take-append-drop, length-drop, length-append, length-map, length-set, length-replicate}
-use lib.Seq.{length-take-le, get_or-drop, get_or-append-add, take-suc, append_snoc, set_at, get_or-take, slice, slice-cons, slice_empty, length-slice, take-append-add, take-append-le, drop-append-le, drop_at, take_at, drop-cons, set-append_left}
+use lib.ListN.{length, take, drop, get_or, set, replicate, get_or-append, length-drop, length-append, length-map, length-set, length-replicate}
+use lib.Seq.{length-take-le, take-suc, append_snoc, set_at, take-append-add, take-append-le, drop-append-le, drop_at, take_at, drop-cons, set-append_left}
+use Rattle.std.specs.List.{copy_within}
 use Rattle.model.specs.Places.{pad}
 use Rattle.runs.specs.Edits.{map_from, insert_at, remove_at, insert, remove}
 
 module _ {A : Type 0} where
-  -- the elements before a place stay, where one at or after it is set or read
-  set_after : (p q : List A) (n k : ℕ) (v : A) → length p ≡ n → set (p ++ q) (n + k) v ≡ p ++ set q k v
-  set_after p q n k v e = subst (λ (m : ℕ). set (p ++ q) (m + k) v ≡ p ++ set q k v) e (go p) where
-    go : (p : List A) → set (p ++ q) (length p + k) v ≡ p ++ set q k v
-    go [] = rw zero-add
-    go (x ∷ p) = rw suc-add (ap (λ (t : List A). x ∷ t) (go p))
-
-  get_d_after : (p q : List A) (n k : ℕ) (d : A) → length p ≡ n → get_or (p ++ q) (n + k) d ≡ get_or q k d
-  get_d_after p q n k d e = subst (λ (m : ℕ). get_or (p ++ q) (m + k) d ≡ get_or q k d) e (get_or-append-add p q k d)
-
-  -- the k elements from the place j on changed by f: what a loop that maps from j on has done so far
+  -- the k elements from the place j on changed by f
   abbrev pub map_part : (A → A) → ℕ → ℕ → List A → List A
   map_part f j k l = take j l ++ (map f (take k (drop j l)) ++ drop k (drop j l))
 
-  module _ (f : A → A) (d : A) where
-    front_more : (l : List A) (k : ℕ) → k < length l → set (map f (take k l) ++ drop k l) k (f (get_or l k d)) ≡ map f (take (suc k) l) ++ drop (suc k) l
-    front_more [] k lt = absurd (omega arith)
-    front_more (x ∷ xs) zero lt = refl
-    front_more (x ∷ xs) (suc k) lt = ap (λ (t : List A). f x ∷ t) (front_more xs k (omega arith))
+  -- room made for an element at the place j, by moving those of j to c up by one, and the element put there
+  put_open : (l : List A) (j c : ℕ) (x d : A) → j ≤ c → c < length l
+      → set (copy_within l j c (j + 1)) j x ≡ take j l ++ (x ∷ (take (c - j) (drop j l) ++ drop (suc c) l))
+  put_open l j c x d le fits =
+      let e : j + 1 ≡ suc j = omega arith in
+      let f : suc j + (c - j) ≡ suc c = omega arith in
+      rw (e, f, append_assoc, take-suc l j d (omega arith), append_snoc) (set_at (take j l) _ _ x j (length-take-le j l (omega arith)))
 
-    front_at : (l : List A) (k : ℕ) → k < length l → get_or (map f (take k l) ++ drop k l) k d ≡ get_or l k d
-    front_at [] k lt = absurd (omega arith)
-    front_at (x ∷ xs) zero lt = refl
-    front_at (x ∷ xs) (suc k) lt = front_at xs k (omega arith)
-
-    module _ (l : List A) (j : ℕ) where
-      pub part_none : map_part f j (j - j) l ≡ l
-      part_none = let e : j - j ≡ 0 = omega arith in rw e (take-append-drop j l)
-
-      module _ (i : ℕ) (le : j ≤ i) (lt : i < length l) where
-        before : j + (i - j) ≡ i
-        before = omega arith
-
-        within : i - j < length (drop j l)
-        within = simp length-drop (omega arith)
-
-        long : length (take j l) ≡ j
-        long = length-take-le j l (omega arith)
-
-        pub part_at : get_or (map_part f j (i - j) l) i d ≡ get_or l i d
-        part_at =
-            subst (λ (n : ℕ). get_or (map_part f j (i - j) l) n d ≡ get_or l n d) before
-            (get_d_after (take j l) _ j (i - j) d long ∙ front_at (drop j l) (i - j) within ∙ get_or-drop j l (i - j) d)
-
-        pub part_more : set (map_part f j (i - j) l) i (f (get_or l i d)) ≡ map_part f j (i + 1 - j) l
-        part_more =
-            let more : i + 1 - j ≡ suc (i - j) = omega arith in
-            rw more
-            (subst (λ (n : ℕ). set (map_part f j (i - j) l) n (f (get_or l n d)) ≡ map_part f j (suc (i - j)) l) before
-            (rw (← get_or-drop)
-            (set_after (take j l) _ j (i - j) _ long ∙ ap (λ (t : List A). take j l ++ t) (front_more (drop j l) (i - j) within))))
-
-  -- the elements of i to c moved up by one, with what was at i still at i: a loop that makes room, so far
-  abbrev pub gap : ℕ → ℕ → List A → List A
-  gap i c l = take (suc i) l ++ (slice i c l ++ drop (suc c) l)
-
-  gap_set : (l r : List A) (i : ℕ) (v d : A) → i < length l → set (take (suc i) l ++ r) i v ≡ take i l ++ (v ∷ r)
-  gap_set l r i v d lt = rw (take-suc l i d lt, append_snoc) (set_at (take i l) _ r v i (length-take-le i l (omega arith)))
-
-  module _ (l : List A) (c : ℕ) (d : A) (fits : c < length l) where
-    pub gap_none : gap c c l ≡ l
-    gap_none = rw (slice_empty c l) (take-append-drop (suc c) l)
-
-    pub gap_at : (i : ℕ) → i ≤ c → 0 < i → get_or (gap i c l) (i - 1) d ≡ get_or l (i - 1) d
-    gap_at i le pos =
-        let long : length (take (suc i) l) ≡ suc i = length-take-le (suc i) l (omega arith) in
-        get_or-append (take (suc i) l) _ d (i - 1) (omega arith) ∙ get_or-take (suc i) l (i - 1) d (omega arith)
-
-    pub gap_more : (i : ℕ) → i ≤ c → 0 < i → set (gap i c l) i (get_or l (i - 1) d) ≡ gap (i - 1) c l
-    gap_more zero le pos = absurd (omega arith)
-    gap_more (suc i) le pos =
-        let e : suc i - 1 ≡ i = omega arith in
-        rw e (gap_set l _ (suc i) (get_or l i d) d (omega arith) ∙ rw (slice-cons i c l d (omega arith) (omega arith)))
-
-    gap_put : (j : ℕ) (x : A) → j ≤ c → set (gap j c l) j x ≡ take j l ++ (x ∷ (slice j c l ++ drop (suc c) l))
-    gap_put j x le = gap_set l _ j x d (omega arith)
-
-  -- the elements after j, to i, moved down by one, with what was at i still at i: a loop that shuts a gap, so far
-  abbrev pub shut : ℕ → ℕ → List A → List A
-  shut j i l = (take j l ++ slice (suc j) (suc i) l) ++ drop i l
-
-  pub shut_none : (l : List A) (j : ℕ) → shut j j l ≡ l
-  shut_none l j = rw (slice_empty (suc j) l, append_assoc) (take-append-drop j l)
-
-  slice_snoc : (l : List A) (f t : ℕ) (d : A) → f ≤ t → t < length l → slice f (suc t) l ≡ slice f t l ++ (get_or l t d ∷ [])
-  slice_snoc l f t d le lt = rw (take-suc l t d lt) (drop-append-le f (take t l) (get_or l t d ∷ []) (rw (length-take-le t l (omega arith)) le))
-
-  module _ (l : List A) (j i : ℕ) (d : A) (le : j ≤ i) (lt : i < length l) where
-    front : suc i ≤ length l → length (take j l ++ slice (suc j) (suc i) l) ≡ i
-    front h = rw (length-append, length-take-le j l (omega arith), length-slice (suc j) (suc i) l h) (omega arith)
-
-    pub shut_at : i + 1 < length l → get_or (shut j i l) (i + 1) d ≡ get_or l (i + 1) d
-    shut_at h = get_d_after (take j l ++ slice (suc j) (suc i) l) (drop i l) i 1 d (front (omega arith)) ∙ get_or-drop i l 1 d
-
-    shut_put : (x : A) → set (shut j i l) i x ≡ (take j l ++ slice (suc j) (suc i) l) ++ (x ∷ drop (suc i) l)
-    shut_put x = rw (drop-cons l i d lt) (set_at (take j l ++ slice (suc j) (suc i) l) _ _ x i (front (omega arith)))
-
-    pub shut_more : i + 1 < length l → set (shut j i l) i (get_or l (i + 1) d) ≡ shut j (i + 1) l
-    shut_more h =
-        let e : i + 1 ≡ suc i = omega arith in
-        shut_put (get_or l (i + 1) d) ∙ rw (e, slice_snoc l (suc j) (suc i) d (omega arith) (omega arith), ← append_assoc, append_snoc)
+  -- the elements after the place j, up to c, moved down by one, and x put in the place that falls free
+  put_shut : (l : List A) (j c : ℕ) (x d : A) → j < c → c ≤ length l
+      → set (copy_within l (j + 1) c j) (c - 1) x ≡ take j l ++ (take (c - (j + 1)) (drop (j + 1) l) ++ (x ∷ drop c l))
+  put_shut l j c x d lt fits =
+      let e : j + (c - (j + 1)) ≡ c - 1 = omega arith in
+      let f : suc (c - 1) ≡ c = omega arith in
+      let front : length (take j l ++ take (c - (j + 1)) (drop (j + 1) l)) ≡ c - 1 =
+      rw (length-append, length-take-le j l (omega arith), length-take-le (c - (j + 1)) (drop (j + 1) l) (rw length-drop (omega arith))) (omega arith) in
+      rw (e, drop-cons l (c - 1) d (omega arith), f, ← append_assoc) (set_at (take j l ++ take (c - (j + 1)) (drop (j + 1) l)) _ (drop c l) x (c - 1) front)
 
   module _ (xs : List A) (j : ℕ) where
     pub length_map_from : (f : A → A) → j ≤ length xs → length (map_from f j xs) ≡ length xs
@@ -143,6 +63,9 @@ module _ {A : Type 0} where
       pub take_pad : take (length xs) (pad n z xs) ≡ xs
       take_pad = rw split (take_at xs _ (length xs) refl)
 
+      pub get_pad : (i : ℕ) → i < length xs → get_or (pad n z xs) i z ≡ get_or xs i z
+      get_pad i h = rw split (get_or-append xs _ z i h)
+
       pub set_pad : (i : ℕ) (x : A) → i < length xs → set (pad n z xs) i x ≡ pad n z (set xs i x)
       set_pad i x h =
           rw split (set-append_left xs _ i x h)
@@ -160,21 +83,21 @@ module _ {A : Type 0} where
           rw (split, e) (set_at xs z _ x (length xs) refl ∙ sym (append_snoc xs x _))
           ∙ sym (pad_is (xs ++ x ∷ []) (n - suc (length xs)) (rw length-append (omega arith)))
 
-      pub insert_pad : (j : ℕ) (x : A) → j ≤ length xs → length xs < n → set (gap j (length xs) (pad n z xs)) j x ≡ pad n z (insert_at j x xs)
+      pub insert_pad : (j : ℕ) (x : A) → j ≤ length xs → length xs < n → set (copy_within (pad n z xs) j (length xs) (j + 1)) j x ≡ pad n z (insert_at j x xs)
       insert_pad j x h lt =
           let e : n - length xs ≡ suc (n - suc (length xs)) = omega arith in
           let long : length (pad n z xs) ≡ n = rw (split, length-append, length-replicate) (omega arith) in
-          gap_put (pad n z xs) (length xs) z (omega arith) j x h
-          ∙ rw (split, take-append-le j xs _ h, take_at xs _ (length xs) refl, e, ← append_snoc xs z, drop_at (xs ++ z ∷ []) _ (suc (length xs)) (rw (length-append) (omega arith)))
+          put_open (pad n z xs) j (length xs) x z h (omega arith)
+          ∙ rw (split, take-append-le j xs _ h, drop-append-le j xs _ h, take_at (drop j xs) _ (length xs - j) (length-drop j xs), e, ← append_snoc xs z, drop_at (xs ++ z ∷ []) _ (suc (length xs)) (rw (length-append) (omega arith)))
           (sym (append_assoc (take j xs) _ _) ∙ sym (pad_is (insert_at j x xs) (n - suc (length xs)) (omega (arith, length_insert_at xs j x h))))
 
-      pub remove_pad : (j c : ℕ) → j < length xs → c + 1 ≡ length xs → set (shut j c (pad n z xs)) c z ≡ pad n z (remove_at j xs)
-      remove_pad j c h e =
+      pub remove_pad : (j : ℕ) → j < length xs → set (copy_within (pad n z xs) (j + 1) (length xs) j) (length xs - 1) z ≡ pad n z (remove_at j xs)
+      remove_pad j h =
           let long : length (pad n z xs) ≡ n = rw (split, length-append, length-replicate) (omega arith) in
-          let s : suc c ≡ length xs = omega arith in
-          shut_put (pad n z xs) j c z (omega arith) (omega arith) z
-          ∙ rw (s, split, take-append-le j xs _ (omega arith), take_at xs _ (length xs) refl, drop_at xs _ (length xs) refl)
-          (sym (pad_is (remove_at j xs) (suc (n - length xs)) (omega (arith, length_remove_at xs j h))))
+          let s : j + 1 ≡ suc j = omega arith in
+          put_shut (pad n z xs) j (length xs) z z h (omega arith)
+          ∙ rw (split, take-append-le j xs _ (omega arith), drop-append-le (j + 1) xs _ (omega arith), take_at (drop (j + 1) xs) _ (length xs - (j + 1)) (length-drop (j + 1) xs), drop_at xs _ (length xs) refl, s)
+          (sym (append_assoc (take j xs) _ _) ∙ sym (pad_is (remove_at j xs) (suc (n - length xs)) (omega (arith, length_remove_at xs j h))))
 
   -- edits at the seam of two lists
   pub insert_between : (p q ys : List A) (i : ℕ) → length p ≡ i → insert i ys (p ++ q) ≡ p ++ (ys ++ q)

@@ -11,7 +11,7 @@ use lib.Seq.{get_or_at, take_all}
 use Rattle.model.specs.declared.Node.{Node}
 use Rattle.model.specs.declared.Model.{Model}
 use Rattle.model.specs.declared.Region.{Region}
-use Rattle.model.specs.declared.RegionAt.TheVariants.{At, None}
+use Rattle.std.specs.Prelude.{Some, None}
 use Rattle.model.specs.Places.{region_places}
 use Rattle.model.specs.Rows.{Row, rows}
 use Rattle.model.specs.Regions.{region, no_region, runs}
@@ -53,7 +53,7 @@ module _ (ps bs : List Row) (k o n : ℕ) (n0 : 0 < n) (before : Parted ps (stre
   run_at = rw run_regions (get_or_at (runs 0 ps) (region (length ps) k o n) _ no_region (length (runs 0 ps)) refl)
 
   -- the search answers its place at its first row
-  pub run_found : region_at (runs 0 whole) (length ps) ≡ At (length (runs 0 ps))
+  pub run_found : region_at (runs 0 whole) (length ps) ≡ Some (length (runs 0 ps))
   run_found =
       hit_at (runs 0 whole) (runs_normal 0 whole).tiled (length ps) (length (runs 0 ps))
       (record { below = rw (run_regions, length-append) (omega arith); low = rw run_at (omega arith); high = rw run_at (omega arith) })
@@ -87,7 +87,7 @@ module _ (m : Model) (xs : List Row) (e : m ≡ laid m (runs 0 xs)) (fits : leng
   rows_total = sym (length_spread (live m)) ∙ ap length rows_spread
 
   -- the search finds the row's parent and index, and none exactly at and past the last row
-  pub find_row : (r i : ℕ) (d : Row) → region_at (live m) r ≡ At i → get_or xs r d ≡ ((at (live m) i).node, child_at (at (live m) i) r)
+  pub find_row : (r i : ℕ) (d : Row) → region_at (live m) r ≡ Some i → get_or xs r d ≡ ((at (live m) i).node, child_at (at (live m) i) r)
   find_row r i d h = ap (λ (l : List Row). get_or l r d) (sym rows_spread) ∙ row_at (live m) rows_normal.tiled r i d h
 
   pub find_none : (r : ℕ) → region_at (live m) r ≡ None → length xs ≤ r
@@ -109,15 +109,15 @@ module _ (m : Model) (xs : List Row) (e : m ≡ laid m (runs 0 xs)) (fits : leng
   merge_runs = ap (laid m) (ap joined rows_live ∙ runs_joined 0 xs) ∙ sym e
 
   -- c rows of node k below row r
-  expand_is : (r i k c : ℕ) → region_at (live m) r ≡ At i → 0 < c → NoRow k xs → expanded (live m) i r k c ≡ runs 0 (insert (suc r) (stretch k 0 c) xs)
+  expand_is : (r i k c : ℕ) → region_at (live m) r ≡ Some i → 0 < c → NoRow k xs → expanded (live m) i r k c ≡ runs 0 (insert (suc r) (stretch k 0 c) xs)
   expand_is r i k c h c0 a =
       expand_rows (live m) rows_normal i r k c (at_holds (live m) r i h) c0 (rw rows_live (absent_runs k 0 xs a)) ∙ ap (λ (l : List Row). runs 0 (insert (suc r) (stretch k 0 c) l)) rows_spread
 
-  pub expand_runs : (r i k c : ℕ) → region_at (live m) r ≡ At i → 0 < c → NoRow k xs → laid m (expanded (live m) i r k c) ≡ laid m (runs 0 (insert (suc r) (stretch k 0 c) xs))
+  pub expand_runs : (r i k c : ℕ) → region_at (live m) r ≡ Some i → 0 < c → NoRow k xs → laid m (expanded (live m) i r k c) ≡ laid m (runs 0 (insert (suc r) (stretch k 0 c) xs))
   expand_runs r i k c h c0 a = ap (laid m) (expand_is r i k c h c0 a)
 
   -- so there is nothing to merge after it
-  pub expand_joined : (r i k c : ℕ) → region_at (live m) r ≡ At i → 0 < c → NoRow k xs → joined (expanded (live m) i r k c) ≡ expanded (live m) i r k c
+  pub expand_joined : (r i k c : ℕ) → region_at (live m) r ≡ Some i → 0 < c → NoRow k xs → joined (expanded (live m) i r k c) ≡ expanded (live m) i r k c
   expand_joined r i k c h c0 a = ap joined (expand_is r i k c h c0 a) ∙ runs_joined 0 (insert (suc r) (stretch k 0 c) xs) ∙ sym (expand_is r i k c h c0 a)
 
   -- the rows of region i out
@@ -129,7 +129,7 @@ module _ (m : Model) (xs : List Row) (e : m ≡ laid m (runs 0 xs)) (fits : leng
   grow_runs i s k o c h c0 = ap (laid m) (grow_rows (live m) i s k o c rows_normal.tiled h c0 ∙ ap (λ (l : List Row). runs 0 (insert s (stretch k o c) l)) rows_spread)
 
   -- where they go: before the region found at a row with another parent than the row before it, or past the last region
-  pub grow_found : (s i : ℕ) (d : Row) → region_at (live m) s ≡ At i → 0 < s → (get_or xs (s - 1) d).0 ≢ (get_or xs s d).0 → total (take i (live m)) ≡ s
+  pub grow_found : (s i : ℕ) (d : Row) → region_at (live m) s ≡ Some i → 0 < s → (get_or xs (s - 1) d).0 ≢ (get_or xs s d).0 → total (take i (live m)) ≡ s
   grow_found s i d h s0 n = go (dec_lt (at (live m) i).start s)
     where
       w : Holds (live m) s i

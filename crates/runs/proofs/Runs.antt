@@ -18,7 +18,7 @@ use Rattle.runs.specs.Regions.{stretch, region_rows, spread, at, Tiled, Apart, S
 use Rattle.runs.specs.Changes.{merge, attach, joined}
 
 -- a region before others
-attach_same : (g h : Region) (hs : List Region) → h.node ≡ g.node → attach g (h ∷ hs) ≡ merge g h ∷ hs
+pub attach_same : (g h : Region) (hs : List Region) → h.node ≡ g.node → attach g (h ∷ hs) ≡ merge g h ∷ hs
 attach_same g h hs e = rw (eq-eqb h.node g.node e)
 
 pub attach_apart : (g : Region) (hs : List Region) → Apart g.node hs → attach g hs ≡ g ∷ hs

@@ -9,10 +9,13 @@ use native.Mathlib.Nat.{sub-zero, add-zero, zero-add}
 use lib.Dec.{leb, ltb}
 use lib.ListN.{length, get_or, get_or-append}
 use lib.Seq.{get_or-append-add}
-use borrow.Author.Tests.{ltb-true, leb-true, le-leb, lt-ltb, le-ltb}
+use borrow.Author.Tests.{ltb-true, leb-true, leb-false, le-leb, lt-ltb, le-ltb}
 use Rattle.model.specs.declared.Region.{Region}
-use Rattle.model.specs.declared.RegionAt.TheVariants.{At, None}
+use Rattle.std.specs.Prelude.{Some, None}
+use Rattle.std.specs.List.Sorted.{IsPartitionedBy, IsPartitionPoint}
+use Rattle.std.proofs.lemmas.List.Sorted.{IsNonDecreasingBy-from_default, IsPartitionedBy-leb}
 use Rattle.model.specs.Rows.{Row}
+use Rattle.model.specs.Regions.{no_region}
 use Rattle.runs.specs.Regions.{stretch, region_rows, spread, total, at, Tiled}
 use Rattle.runs.specs.Search.{holds, region_from, region_at, child_at, Holds, Last}
 
@@ -46,12 +49,23 @@ start_after s (q ∷ gs) t i zero h l = absurd (omega arith)
 start_after s (q ∷ gs) t zero (suc k) h l = omega (arith, start_least (s + q.length) gs t.2 k (omega arith))
 start_after s (q ∷ gs) t (suc i) (suc k) h l = start_after (s + q.length) gs t.2 i k (omega arith) (omega arith)
 
+start_rises : (s : ℕ) (gs : List Region) → Tiled s gs → (i j : ℕ) → i ≤ j → j < length gs → (at gs i).start ≤ (at gs j).start
+start_rises s [] t i j h l = absurd (omega arith)
+start_rises s (q ∷ gs) t zero zero h l = omega arith
+start_rises s (q ∷ gs) t zero (suc j) h l = omega (arith, start_least (s + q.length) gs t.2 j (omega arith))
+start_rises s (q ∷ gs) t (suc i) zero h l = absurd (omega arith)
+start_rises s (q ∷ gs) t (suc i) (suc j) h l = start_rises (s + q.length) gs t.2 i j (omega arith) (omega arith)
+
 pub first_start : (s : ℕ) (gs : List Region) → Tiled s gs → 0 < length gs → (at gs 0).start ≡ s
 first_start s [] t h = absurd (omega arith)
 first_start s (q ∷ gs) t h = t.0
 
+no_rows : (gs : List Region) → ¬ 0 < length gs → total gs ≡ 0
+no_rows [] b = refl
+no_rows (g ∷ gs) b = absurd (omega arith)
+
 -- what the search answers
-region_hit : (s k : ℕ) (gs : List Region) → Tiled s gs → (r i : ℕ) → Holds gs r i → region_from k gs r ≡ At (k + i)
+region_hit : (s k : ℕ) (gs : List Region) → Tiled s gs → (r i : ℕ) → Holds gs r i → region_from k gs r ≡ Some (k + i)
 unfolding region_from
 region_hit s k [] t r i h = absurd (omega (arith, h.below))
 region_hit s k (g ∷ gs) t r zero h = rw (le-leb g.start r h.low, lt-ltb r (g.start + g.length) h.high, add-zero)
@@ -59,7 +73,7 @@ region_hit s k (g ∷ gs) t r (suc i) h =
     let past : s + g.length ≤ r = omega (arith, start_least (s + g.length) gs t.2 i (omega (arith, h.below)), h.low) in
     let e : suc k + i ≡ k + suc i = omega arith in
     rw (le-leb g.start r (omega arith), le-ltb r (g.start + g.length) (omega arith))
-    (region_hit (s + g.length) (suc k) gs t.2 r i (record { below = omega (arith, h.below); low = h.low; high = h.high }) ∙ ap At e)
+    (region_hit (s + g.length) (suc k) gs t.2 r i (record { below = omega (arith, h.below); low = h.low; high = h.high }) ∙ ap Some e)
 
 region_none : (s k : ℕ) (gs : List Region) → Tiled s gs → (r : ℕ) → s + total gs ≤ r → region_from k gs r ≡ None
 unfolding region_from
@@ -72,12 +86,12 @@ and_true true b e = (refl, e)
 and_true false b e = let z : ◌≡◌ {A = ℕ} 0 1 = cc in absurd (omega arith)
 
 -- an answer holds the row, in any list
-region_holds : (k : ℕ) (gs : List Region) (r i : ℕ) → region_from k gs r ≡ At i → (k ≤ i) × Holds gs r (i - k)
+region_holds : (k : ℕ) (gs : List Region) (r i : ℕ) → region_from k gs r ≡ Some i → (k ≤ i) × Holds gs r (i - k)
 unfolding region_from
 region_holds k [] r i e = let z : ◌≡◌ {A = ℕ} 0 1 = cc in absurd (omega arith)
 region_holds k (g ∷ gs) r i e = go (λ f. region_holds (suc k) gs r i f) (holds g r) refl e
   where
-    go : (region_from (suc k) gs r ≡ At i → (suc k ≤ i) × Holds gs r (i - suc k)) → (b : Bool) → holds g r ≡ b → cond b (At k) (region_from (suc k) gs r) ≡ At i → (k ≤ i) × Holds (g ∷ gs) r (i - k)
+    go : (region_from (suc k) gs r ≡ Some i → (suc k ≤ i) × Holds gs r (i - suc k)) → (b : Bool) → holds g r ≡ b → cond b (Some k) (region_from (suc k) gs r) ≡ Some i → (k ≤ i) × Holds (g ∷ gs) r (i - k)
     go rest true q f =
         let ki : k ≡ i = cc in
         let z : i - k ≡ 0 = omega arith in
@@ -98,9 +112,9 @@ some_holds s (g ∷ gs) t r l h = go (dec_lt r (s + g.length)) (λ b. some_holds
     go (no b) f = let w = f (omega arith) in (suc w.0, record { below = omega (arith, w.1.below); low = w.1.low; high = w.1.high })
 
 module _ (gs : List Region) (t : Tiled 0 gs) (r : ℕ) where
-  pub hit_at : (i : ℕ) → Holds gs r i → region_at gs r ≡ At i
+  pub hit_at : (i : ℕ) → Holds gs r i → region_at gs r ≡ Some i
   unfolding region_at
-  hit_at i h = region_hit 0 0 gs t r i h ∙ ap At (zero-add i)
+  hit_at i h = region_hit 0 0 gs t r i h ∙ ap Some (zero-add i)
 
   pub none_at : total gs ≤ r → region_at gs r ≡ None
   unfolding region_at
@@ -121,11 +135,33 @@ module _ (gs : List Region) (t : Tiled 0 gs) (r : ℕ) where
       go (yes b) = b
       go (no b) = absurd (omega (arith, last_total i l (omega arith)))
 
-  pub last_hit : (i : ℕ) → Last gs r i → r - (at gs i).start < (at gs i).length → At i ≡ region_at gs r
+  pub last_hit : (i : ℕ) → Last gs r i → r - (at gs i).start < (at gs i).length → Some i ≡ region_at gs r
   last_hit i l h = sym (hit_at i (record { below = l.below; low = l.low; high = omega (arith, l.low) }))
 
   pub last_none : (i : ℕ) → Last gs r i → (at gs i).length ≤ r - (at gs i).start → None ≡ region_at gs r
   last_none i l h = sym (none_at (last_total i l (omega (arith, l.low))))
+
+  -- cut where the starts pass row r: what comes before the cut has the last region that starts at or before it
+  abbrev pub Cut : ℕ → Type 0
+  Cut n = IsPartitionPoint (λ (g : Region). leb g.start r ≡ true) (λ (g : Region). leb g.start r ≡ false) gs n
+
+  pub starts_parted : IsPartitionedBy (λ (g : Region). leb g.start r) gs
+  starts_parted = IsPartitionedBy-leb (λ (g : Region). g.start) gs r (IsNonDecreasingBy-from_default (λ (g : Region). g.start) gs no_region (start_rises 0 gs t))
+
+  pub cut_last : (n : ℕ) → Cut n → 0 < n → n ≤ length gs → Last gs r (n - 1)
+  cut_last n p some fits =
+      record {
+        below = omega arith;
+        low = leb-true _ _ (p.0 (n - 1) no_region (omega arith) (omega arith));
+        next = λ h. leb-false _ _ (p.1 (suc (n - 1)) no_region (omega arith) h);
+      }
+
+  pub cut_none : Cut 0 → None ≡ region_at gs r
+  cut_none p = go (dec_lt 0 (length gs))
+    where
+      go : Dec (0 < length gs) → None ≡ region_at gs r
+      go (yes b) = absurd (omega (arith, first_start 0 gs t b, leb-false _ _ (p.1 0 no_region (omega arith) b)))
+      go (no b) = sym (none_at (omega (arith, no_rows gs b)))
 
   -- None exactly at and past the total
   pub none_past : region_at gs r ≡ None → total gs ≤ r
@@ -134,12 +170,12 @@ module _ (gs : List Region) (t : Tiled 0 gs) (r : ℕ) where
       go : Dec (r < total gs) → total gs ≤ r
       go (yes b) =
           let w = some_holds 0 gs t r (omega arith) (omega arith) in
-          let f : At w.0 ≡ None = sym (hit_at w.0 w.1) ∙ e in
+          let f : Some w.0 ≡ None = sym (hit_at w.0 w.1) ∙ e in
           let z : ◌≡◌ {A = ℕ} 0 1 = cc in
           absurd (omega arith)
       go (no b) = omega arith
 
-pub at_holds : (gs : List Region) (r i : ℕ) → region_at gs r ≡ At i → Holds gs r i
+pub at_holds : (gs : List Region) (r i : ℕ) → region_at gs r ≡ Some i → Holds gs r i
 unfolding region_at
 at_holds gs r i e = rw sub-zero at (region_holds 0 gs r i e).1
 
@@ -165,5 +201,5 @@ row_from s (q ∷ gs) t r (suc i) d h =
     e = rw length_stretch (omega (arith, start_least (s + q.length) gs t.2 i (omega (arith, h.below)), h.low))
 
 -- the row that the search finds: its parent, and its index there
-pub row_at : (gs : List Region) → Tiled 0 gs → (r i : ℕ) (d : Row) → region_at gs r ≡ At i → get_or (spread gs) r d ≡ ((at gs i).node, child_at (at gs i) r)
+pub row_at : (gs : List Region) → Tiled 0 gs → (r i : ℕ) (d : Row) → region_at gs r ≡ Some i → get_or (spread gs) r d ≡ ((at gs i).node, child_at (at gs i) r)
 row_at gs t r i d e = rw sub-zero at (row_from 0 gs t r i d (at_holds gs r i e))

@@ -5,7 +5,7 @@ use native.Mathlib.Numerals.{add-one}
 use native.Mathlib.Decide.{ℕ_discrete, dec_lt}
 use mathlib.Core.Path.{◌≡◌, refl, sym, ap, ◌∙◌}
 use mathlib.Core.Logic.{◌≢◌}
-use mathlib.Core.Bool.{Bool, true, false, cond, ◌&&◌}
+use mathlib.Core.Bool.{Bool, true, false, ◌&&◌}
 use mathlib.Core.List.{List, [], ◌∷◌, ◌++◌}
 use lib.ListN.{length, drop}
 use lib.Dec.{eqb, ltb, leb}
@@ -24,7 +24,8 @@ use Rattle.sound.proofs.Walk.{rest, Place, Next, to_end, to_child, next, rest_up
 use Rattle.lists.proofs.Bools.{both, and, differ}
 use Rattle.tree.proofs.Listing.{open_child_lem}
 use Rattle.tree.proofs.Regions.{regions_fit}
-use Rattle.tree.proofs.WellFormed.{open_used, zero_open, used_small, child_by_is}
+use Rattle.tree.proofs.WellFormed.{open_used, zero_open, child_by_is}
+use Rattle.model.proofs.Search.{node_past}
 use Rattle.tree.specs.WellFormed.{Opens, up, ix, WellFormed}
 
 -- where the walk is on course, the regions from place j on are to be those of the rows from the walk's place on
@@ -83,12 +84,14 @@ module _ (ns : List Node) (w : WellFormed ns) (gs : List Region) (size : length 
   next_child_lem : (c p y : ℕ) → is_next (node_at ns (suc c)) (suc c) p y ≡ true → open_child ns p y ≡ suc c
   next_child_lem c p y e = let q = next_parts (node_at ns (suc c)) (suc c) p y e in rw (q.2, q.3) at (child_by_is ns w is_open c (λ n o. rw o) q.1)
 
-  next_none : (d c p y : ℕ) → c ≡ cond (ltb d 256) d 0 → is_next (node_at ns c) c p y ≡ false → (k : ℕ) → open_child ns p y ≡ suc k → d ≢ suc k
-  next_none d c p y e f k o z =
+  next_none : (d p y : ℕ) → is_next (node_at ns d) d p y ≡ false → (k : ℕ) → open_child ns p y ≡ suc k → d ≢ suc k
+  next_none d p y f k o z =
       let q = open_child_lem ns w p y k o in
-      let low : ltb d 256 ≡ true = lt-ltb d 256 (omega (arith, used_small ns w (suc k) (open_used ns (suc k) q.0))) in
-      let is : c ≡ suc k = e ∙ ap (λ (b : Bool). cond b d 0) low ∙ z in
-      differ (rw is (and (lt-ltb 0 (suc k) (omega arith)) (and q.0 (and (eq-eqb _ _ q.1) (eq-eqb _ _ q.2))))) f
+      differ (rw z (and (lt-ltb 0 (suc k) (omega arith)) (and q.0 (and (eq-eqb _ _ q.1) (eq-eqb _ _ q.2))))) f
+
+  -- a number past the nodes names no open child
+  pub next_past : (d p y : ℕ) → length ns ≤ d → is_next (node_at ns d) d p y ≡ false
+  next_past d p y l = ap (λ (n : Node). is_next n d p y) (node_past ns d l) ∙ fail_r (ltb 0 d) _ refl
 
   pub course_place : (j s p i : ℕ) → Course ns gs count j s p i → Place ns p i
   course_place j s p i (on a) = a.there
@@ -199,9 +202,6 @@ module _ (ns : List Node) (w : WellFormed ns) (gs : List Region) (size : length 
       facts : (g.start ≡ s) × (g.node ≡ p) × (g.offset ≡ i) × (0 < g.length) × (g.length ≤ direct_of ns p - i)
       facts = begins_parts g s p i 0 (direct_of ns p - i) b
 
-      pub course_length : (0 < (region_at gs j).length) × ((region_at gs j).length ≤ direct_of ns p - i)
-      course_length = (facts.3, facts.4)
-
       pub course_fits : Course ns gs count j s p i → s + (region_at gs j).length ≤ length (rows ns)
       course_fits (on a) = omega (arith, a.left, skip_length ns w p g.length i (omega (arith, facts.4)))
       course_fits (off h q e) = omega (arith, q, skip_length ns w p g.length i (omega (arith, facts.4)))
@@ -239,7 +239,7 @@ module _ (ns : List Node) (w : WellFormed ns) (gs : List Region) (size : length 
       course_in (suc c) e a = enters (i + (region_at gs j).length - 1) c (omega (arith, facts.3)) (next_child_lem c p (i + (region_at gs j).length - 1) e) a
 
       -- the next region names no open child at the region's last row
-      module _ (k : ℕ) (named : k ≡ cond (ltb (region_at gs (j + 1)).node 256) (region_at gs (j + 1)).node 0) (none : is_next (node_at ns k) k p (i + (region_at gs j).length - 1) ≡ false) where
+      module _ (none : is_next (node_at ns (region_at gs (j + 1)).node) (region_at gs (j + 1)).node p (i + (region_at gs j).length - 1) ≡ false) where
         -- an open child at the region's end, or before it
         missed : (n c : ℕ) → i + n < direct_of ns p → open_child ns p (i + n) ≡ suc c → rest ns p i ≡ stretch p i (suc n) ++ rest ns (suc c) 0 → On ns gs count j s p i → whole ≡ false
         missed n c q f r a = go (ℕ_discrete g.length (suc n))
@@ -248,7 +248,7 @@ module _ (ns : List Node) (w : WellFormed ns) (gs : List Region) (size : length 
             go (yes e) =
                 let o = (open_child_lem ns w p (i + n) c f).0 in
                 let y : i + (region_at gs j).length - 1 ≡ i + n = omega arith in
-                lost (j + 1) (s + suc n) c l ((w.placed c (open_used ns (suc c) o)).filled o) (next_none (region_at gs (j + 1)).node k p (i + n) named (rw y at none) c f)
+                lost (j + 1) (s + suc n) c l ((w.placed c (open_used ns (suc c) o)).filled o) (next_none (region_at gs (j + 1)).node p (i + n) (rw y at none) c f)
                 (good j s p i n (suc c) 0 (omega arith) a r (child_not ns w p (i + n) c f) (begins_same g s p i (suc n) (direct_of ns p - i) b e) (child_place p (i + n) c f))
             go (no e) = bad j s p i n (suc c) 0 (omega arith) a r (child_not ns w p (i + n) c f) (length_not g s p i (suc n) 0 e)
 

@@ -2,46 +2,20 @@
 use Prim.Native.Nat.{ℕ, zero, suc, ◌+◌, ◌<◌, ◌≤◌}
 use native.Mathlib.Omega.{arith}
 use native.Mathlib.Numerals.{add-one}
-use mathlib.Core.Path.{◌≡◌, refl, ap, ◌∙◌}
+use mathlib.Core.Path.{◌≡◌, refl, sym, ap, ap₂, ◌∙◌}
 use mathlib.Core.Logic.{◌≢◌}
 use mathlib.Core.Bool.{Bool, true, false, cond, ◌&&◌}
-use mathlib.Core.List.{List}
-use lib.ListN.{length, drop, drop_of_length-le}
-use lib.Seq.{drop-cons}
+use mathlib.Core.List.{List, [], ◌∷◌}
+use lib.ListN.{length}
 use lib.Dec.{eqb, ltb}
-use borrow.Author.Tests.{ne_eqb}
+use Rattle.std.specs.List.{list_all, enumerate_from}
+use borrow.Author.Tests.{ltb-false, ne_eqb}
 use Rattle.model.specs.declared.Node.{Node}
-use Rattle.model.specs.Nodes.{no_node, node_at, used}
+use Rattle.model.specs.Nodes.{node_at, used}
 use Rattle.model.specs.Sound.{capture_ok, blank}
-use Rattle.nodes.proofs.Tests.{and_end, fail_r}
-use Rattle.sound.specs.Tests.{all_from, zeros, seated, place_ok}
+use Rattle.nodes.proofs.Tests.{fail_r}
+use Rattle.sound.specs.Tests.{all_from, seated, place_ok, places_ok}
 use Rattle.model.proofs.Search.{node_past}
-
--- a test of every node, from node k on
-module _ (t : ℕ → Node → Bool) (ns : List Node) (k : ℕ) where
-  pub all_next : k < length ns → t k (node_at ns k) ≡ true → all_from t k (drop k ns) ≡ all_from t (k + 1) (drop (k + 1) ns)
-  unfolding all_from
-  all_next lt e = rw (add-one, drop-cons ns k no_node lt, e)
-
-  pub all_stop : k < length ns → t k (node_at ns k) ≡ false → all_from t k (drop k ns) ≡ false
-  unfolding all_from
-  all_stop lt e = rw (drop-cons ns k no_node lt, e)
-
-  pub all_end : length ns ≤ k → all_from t k (drop k ns) ≡ true
-  unfolding all_from
-  all_end le = rw (drop_of_length-le ns le)
-
--- the capture
-pub capture_shut : (n : Node) → n.«open» ≡ false → false ≡ capture_ok n
-unfolding capture_ok
-capture_shut n e = rw e
-
-four : (b c d e : Bool) → (b && c && d && e && true && true) ≡ (b && c && d && e)
-four b c d e = rw (and_end (b && c && d && e && true), and_end (b && c && d && e))
-
-pub capture_open : (n : Node) → n.«open» ≡ true → zeros n.entry n.parent n.index n.version 0 0 ≡ capture_ok n
-unfolding capture_ok
-capture_open n e = rw e (four (eqb n.entry 0) (eqb n.parent 0) (eqb n.index 0) (eqb n.version 0))
 
 -- one place
 module _ (n p : Node) where
@@ -60,6 +34,8 @@ module _ (n p : Node) where
   place_unused zero d u = absurd (d refl)
   place_unused (suc k) d u = rw u
 
+pub ruleset places = (place_capture, place_used, place_unused)
+
 -- a parent past the places is none
 six : (a b c d e f : Bool) → a ≡ false → (a && b && c && d && e && f) ≡ false
 six a b c d e f h = rw h
@@ -77,3 +53,20 @@ place_lost ns (suc k) n l h = go (used n)
     go : (b : Bool) → cond b (seated n (node_at ns n.parent)) (blank n) ≡ false
     go true = ap (seated n) (node_past ns n.parent h) ∙ fail_r (ltb 0 n.entry) _ refl
     go false = six (eqb n.parent 0) _ _ _ _ _ (ne_eqb n.parent 0 (λ e. omega arith))
+
+-- the places, each with its number
+numbered : (t : ℕ → Node → Bool) (q : ℕ × Node → Bool) → ((k : ℕ) (n : Node) → q (k, n) ≡ t k n) → (k : ℕ) (ns : List Node) → list_all q (enumerate_from k ns) ≡ all_from t k ns
+unfolding all_from
+numbered t q e k [] = refl
+numbered t q e k (n ∷ ns) = ap₂ (λ (a b : Bool). a && b) (e k n) (numbered t q e (k + 1) ns ∙ ap (λ (x : ℕ). all_from t x ns) (add-one k))
+
+abbrev pub place_numbered : List Node → ℕ × Node → Bool
+place_numbered ns p = ltb p.1.parent 256 && place_ok p.0 p.1 (node_at ns p.1.parent)
+
+pub places_numbered : (ns : List Node) → length ns ≡ 256 → list_all (place_numbered ns) (enumerate_from 0 ns) ≡ places_ok ns
+unfolding places_ok
+places_numbered ns size = numbered (λ k n. place_ok k n (node_at ns n.parent)) (place_numbered ns) (λ k n. go k n (ltb n.parent 256) refl) 0 ns
+  where
+    go : (k : ℕ) (n : Node) (b : Bool) → ltb n.parent 256 ≡ b → (b && place_ok k n (node_at ns n.parent)) ≡ place_ok k n (node_at ns n.parent)
+    go k n true e = refl
+    go k n false e = sym (place_lost ns k n (omega arith) (omega (arith, ltb-false n.parent 256 e)))

@@ -6,8 +6,9 @@ use mathlib.Core.Path.{◌≡◌, refl, sym, ap, ap₂, ◌∙◌}
 use mathlib.Core.Logic.{◌≢◌}
 use mathlib.Core.Bool.{Bool, true, false, cond, ◌&&◌}
 use mathlib.Core.List.{List, [], ◌∷◌, ◌++◌}
-use lib.ListN.{length, drop, take, get_or, replicate, drop_of_length-le}
-use lib.Seq.{drop-cons}
+use lib.ListN.{length, drop, take, get_or, replicate, length-drop}
+use lib.Seq.{take-length, drop-cons}
+use Rattle.std.specs.List.{list_all}
 use lib.Dec.{eqb}
 use borrow.Author.Tests.{eq-eqb, ne_eqb}
 use Rattle.model.specs.declared.Region.{Region}
@@ -15,7 +16,7 @@ use Rattle.model.specs.Places.{pad}
 use Rattle.model.specs.Rows.{Row}
 use Rattle.model.specs.Regions.{region, no_region, join, runs}
 use Rattle.model.specs.Sound.{same_region, same_list}
-use Rattle.nodes.proofs.Tests.{and_end, fail_l, fail_r}
+use Rattle.nodes.proofs.Tests.{and_end, fail_r}
 
 abbrev pub region_at : List Region → ℕ → Region
 region_at gs k = get_or gs k no_region
@@ -24,26 +25,20 @@ region_at gs k = get_or gs k no_region
 abbrev pub zero_from : List Region → ℕ → Bool
 zero_from gs k = same_list same_region (drop k gs) (replicate (512 - k) no_region)
 
-module _ (gs : List Region) (k : ℕ) (size : length gs ≡ 512) where
-  zero_here : k < 512 → zero_from gs k ≡ (same_region (region_at gs k) no_region && zero_from gs (k + 1))
-  unfolding same_list
-  zero_here l =
-      let h : k < length gs = omega arith in
-      let y : 512 - k ≡ suc (512 - (k + 1)) = omega arith in
-      ap₂ (same_list same_region) (drop-cons gs k no_region h ∙ ap (λ (x : ℕ). region_at gs k ∷ drop x gs) (sym (add-one k))) (ap (λ (x : ℕ). replicate x no_region) y)
+abbrev pub is_no_region : Region → Bool
+is_no_region g = same_region g no_region
 
-  pub zero_next : k < 512 → same_region (region_at gs k) no_region ≡ true → zero_from gs k ≡ zero_from gs (k + 1)
-  zero_next l e = zero_here l ∙ ap (λ (b : Bool). b && zero_from gs (k + 1)) e
+zero_each : (gs : List Region) (n : ℕ) → length gs ≡ n → list_all is_no_region gs ≡ same_list same_region gs (replicate n no_region)
+unfolding same_list
+zero_each [] zero e = refl
+zero_each [] (suc n) e = absurd (omega arith)
+zero_each (g ∷ gs) zero e = absurd (omega arith)
+zero_each (g ∷ gs) (suc n) e = ap (λ (b : Bool). is_no_region g && b) (zero_each gs n (omega arith))
 
-  pub zero_stop : k < 512 → same_region (region_at gs k) no_region ≡ false → zero_from gs k ≡ false
-  zero_stop l e = zero_here l ∙ fail_l _ _ e
-
-  pub zero_end : k ≡ 512 → zero_from gs k ≡ true
-  unfolding same_list
-  zero_end e =
-      let y : 512 - k ≡ 0 = omega arith in
-      let l : length gs ≤ k = omega arith in
-      ap₂ (same_list same_region) (drop_of_length-le gs l) (ap (λ (x : ℕ). replicate x no_region) y)
+pub zero_all : (gs : List Region) (k : ℕ) → length gs ≡ 512 → list_all is_no_region (take (length gs - k) (drop k gs)) ≡ zero_from gs k
+zero_all gs k size =
+    let e : take (length gs - k) (drop k gs) ≡ drop k gs = ap (λ (n : ℕ). take n (drop k gs)) (sym (length-drop k gs)) ∙ take-length (drop k gs) in
+    ap (list_all is_no_region) e ∙ zero_each (drop k gs) (512 - k) (length-drop k gs ∙ ap (λ (n : ℕ). n - k) size)
 
 -- regions and their number against the runs rs, from place j on, of which there are n
 unfoldable pub fits : List Region → ℕ → ℕ → ℕ → List Region → Bool

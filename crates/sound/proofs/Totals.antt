@@ -6,9 +6,10 @@ use native.Mathlib.Numerals.{add-one}
 use mathlib.Core.Path.{◌≡◌, refl, sym, ap, ap₂, ◌∙◌}
 use mathlib.Core.Bool.{Bool, true, false, cond, ◌&&◌, beq}
 use mathlib.Core.List.{List, [], ◌∷◌}
-use lib.ListN.{length, drop, get_or, set, replicate, length-set, length-drop, drop_of_length-le, length-replicate, get_or-replicate}
-use lib.Seq.{drop-cons, get_or-drop, get_or-set_same, get_or-set_other}
+use lib.ListN.{length, drop, take, get_or, set, replicate, length-set, length-drop, drop_of_length-le, length-replicate, get_or-replicate}
+use lib.Seq.{take-length, drop-cons, get_or-drop, get_or-set_same, get_or-set_other}
 use lib.Dec.{eqb}
+use Rattle.std.specs.List.{list_all, zip}
 use borrow.Author.Tests.{eqb-true, eqb-false, eq-eqb, ne_eqb}
 use Rattle.model.specs.declared.Node.{Node}
 use Rattle.model.specs.Places.{longest_chain}
@@ -17,7 +18,7 @@ use Rattle.model.specs.Rows.{total_of}
 use Rattle.model.specs.Settle.{totalled}
 use Rattle.model.specs.Sound.{reaches, same_node, same_list}
 use Rattle.nodes.proofs.Tests.{both_ways}
-use Rattle.sound.specs.Tests.{all_from, places_ok, open_total, parts, total_is, totals_ok, Summed}
+use Rattle.sound.specs.Tests.{all_from, places_ok, open_total, parts, total_is, totals_ok}
 use Rattle.sound.proofs.Formed.{every, every_made, parent_open, parent_filled, parent_low}
 use Rattle.sound.proofs.Children.{totals_rows, rows_totals}
 use Rattle.lists.proofs.Bools.{differ}
@@ -28,16 +29,6 @@ use Rattle.tree.specs.WellFormed.{Used, Opens, up, WellFormed}
 
 -- one total
 module _ (n : Node) (s : ℕ) where
-  pub total_short : used n ≡ true → n.total < n.direct → false ≡ total_is n s
-  total_short u l = rw u (sym (ne_eqb n.total (n.direct + s) (λ e. omega arith)))
-
-  pub total_rest : used n ≡ true → n.direct ≤ n.total → eqb (n.total - n.direct) s ≡ total_is n s
-  total_rest u l =
-      rw u
-      (both_ways (eqb (n.total - n.direct) s) (eqb n.total (n.direct + s))
-      (λ e. eq-eqb n.total (n.direct + s) (omega (arith, eqb-true (n.total - n.direct) s e)))
-      (λ e. eq-eqb (n.total - n.direct) s (omega (arith, eqb-true n.total (n.direct + s) e))))
-
   total_right : used n ≡ true → total_is n s ≡ true → n.total ≡ n.direct + s
   total_right u e = eqb-true n.total (n.direct + s) (rw u at e)
 
@@ -149,6 +140,16 @@ adding_start ns = record { long = length-replicate {A = ℕ} 256 0; left = λ p 
     zero_everywhere (suc n) zero = omega arith
     zero_everywhere (suc n) (suc p) = zero_everywhere n p
 
+-- the nodes after the capture, as a slice
+tail_all : (ns : List Node) → take (length ns - 1) (drop 1 ns) ≡ drop 1 ns
+tail_all ns = ap (λ (n : ℕ). take n (drop 1 ns)) (sym (length-drop 1 ns)) ∙ take-length (drop 1 ns)
+
+pub tail_long : (ns : List Node) → length (take (length ns - 1) (drop 1 ns)) ≡ length ns - 1
+tail_long ns = ap length (tail_all ns) ∙ length-drop 1 ns
+
+pub tail_node : (ns : List Node) (i : ℕ) → get_or (take (length ns - 1) (drop 1 ns)) i no_node ≡ node_at ns (i + 1)
+tail_node ns i = ap (λ (ms : List Node). get_or ms i no_node) (tail_all ns) ∙ get_or-drop 1 ns i no_node ∙ ap (node_at ns) (omega arith)
+
 module _ (ns : List Node) (k : ℕ) (of : List ℕ) (size : length ns ≡ 256) (l : k < 256) (a : Adding ns k of) where
   abbrev n : Node
   n = node_at ns k
@@ -195,9 +196,34 @@ module _ (ns : List Node) (k : ℕ) (of : List ℕ) (size : length ns ≡ 256) (
       go false q = refl
       go true q = absurd (omega (arith, total_at ns q n.parent (open_used ns n.parent (back k refl)), a.left n.parent low, parts_parent, e))
 
-pub adding_all : (ns : List Node) (k : ℕ) (fit : Bool) (of : List ℕ) → length ns ≤ k → fit ≡ true → Adding ns k of → Summed ns fit of
+pub adding_all : (ns : List Node) (k : ℕ) (of : List ℕ) → length ns ≤ k → Adding ns k of → (p : ℕ) → p < 256 → get_or of p 0 ≡ parts p (drop 1 ns)
 unfolding parts
-adding_all ns k fit of l e a = record {
-  sums = λ q p b. omega (arith, a.left p b, ap (parts p) (drop_of_length-le ns l));
-  too_large = λ q. absurd (differ e q);
-}
+adding_all ns k of l a p b = omega (arith, a.left p b, ap (parts p) (drop_of_length-le ns l))
+
+-- the nodes, each with its sum
+abbrev pub total_pair : Node × ℕ → Bool
+total_pair p = total_is p.0 p.1
+
+paired : (s : ℕ → ℕ) (k : ℕ) (ns : List Node) (of : List ℕ) → length of ≡ length ns → ((p : ℕ) → p < length ns → get_or of p 0 ≡ s (k + p)) → list_all total_pair (zip ns of) ≡ all_from (λ k n. total_is n (s k)) k ns
+unfolding all_from
+paired s k [] of e h = refl
+paired s k (n ∷ ns) [] e h = absurd (omega arith)
+paired s k (n ∷ ns) (v ∷ vs) e h =
+    ap₂ (λ (a b : Bool). a && b) (ap (total_is n) (h 0 (omega arith) ∙ ap s (omega arith)))
+    (paired s (suc k) ns vs (omega arith) (λ p l. h (suc p) (omega arith) ∙ ap s (omega arith)))
+
+pub totals_paired : (ns : List Node) (of : List ℕ) → length ns ≡ 256 → length of ≡ 256 → ((p : ℕ) → p < 256 → get_or of p 0 ≡ parts p (drop 1 ns)) → list_all total_pair (zip ns of) ≡ totals_ok ns
+unfolding totals_ok
+totals_paired ns of size long h = paired (λ p. parts p (drop 1 ns)) 0 ns of (omega arith) (λ p l. h p (omega arith) ∙ ap (λ (x : ℕ). parts x (drop 1 ns)) (omega arith))
+
+-- what comparing a total with the node's children says of the test of it
+module _ (n : Node) (s : ℕ) where
+  pub total_short : used n ≡ true → n.total < n.direct → false ≡ total_is n s
+  total_short u l = rw u (sym (ne_eqb n.total (n.direct + s) (λ e. omega arith)))
+
+  pub total_rest : used n ≡ true → n.direct ≤ n.total → eqb (n.total - n.direct) s ≡ total_is n s
+  total_rest u l =
+      rw u
+      (both_ways (eqb (n.total - n.direct) s) (eqb n.total (n.direct + s))
+      (λ e. eq-eqb n.total (n.direct + s) (omega (arith, eqb-true (n.total - n.direct) s e)))
+      (λ e. eq-eqb (n.total - n.direct) s (omega (arith, eqb-true n.total (n.direct + s) e))))

@@ -1,9 +1,8 @@
 -- The search for twins, pair by pair.
 use Prim.Native.Nat.{ℕ, ◌+◌, ◌<◌, ◌≤◌}
-use native.Mathlib.Omega.{arith}
 use native.Mathlib.Numerals.{add-one}
-use mathlib.Core.Path.{◌≡◌, refl, ap, ◌∙◌, sym}
-use mathlib.Core.Bool.{Bool, true, false, cond, ◌||◌}
+use mathlib.Core.Path.{◌≡◌, refl, ap, ◌∙◌}
+use mathlib.Core.Bool.{Bool, true, false, ◌||◌}
 use mathlib.Core.List.{List, [], ◌∷◌}
 use lib.ListN.{length, drop, drop_of_length-le}
 use lib.Seq.{drop-cons}
@@ -24,14 +23,6 @@ module _ (ns : List Node) (a : Node) (j : ℕ) where
   unfolding any_twin
   any_end le = rw (drop_of_length-le ns le)
 
--- where the search for a twin of node i begins is in the list, or at its end
-pub first_low : (a : Node) (i j : ℕ) → i < 256 → j ≡ cond (used a) (i + 1) 256 → j ≤ 256
-first_low a i j l e = go (used a) e
-  where
-    go : (b : Bool) → j ≡ cond b (i + 1) 256 → j ≤ 256
-    go true q = omega arith
-    go false q = omega arith
-
 -- a node that is not in use has no twin
 any_unused : (a : Node) (bs : List Node) → used a ≡ false → any_twin a bs ≡ false
 unfolding any_twin
@@ -39,17 +30,12 @@ any_unused a [] u = refl
 any_unused a (b ∷ bs) u = rw u (any_unused a bs u)
 
 module _ (ns : List Node) (i : ℕ) where
-  has_split : i < length ns → has_twins (drop i ns) ≡ (any_twin (node_at ns i) (drop (i + 1) ns) || has_twins (drop (i + 1) ns))
+  pub has_split : i < length ns → has_twins (drop i ns) ≡ (any_twin (node_at ns i) (drop (i + 1) ns) || has_twins (drop (i + 1) ns))
   unfolding has_twins
   has_split lt = rw (add-one, drop-cons ns i no_node lt)
 
-  pub has_start : (j : ℕ) → length ns ≡ 256 → i < 256 → j ≡ cond (used (node_at ns i)) (i + 1) 256
-      → (any_twin (node_at ns i) (drop j ns) || has_twins (drop (i + 1) ns)) ≡ has_twins (drop i ns)
-  has_start j size l e = ap (λ (b : Bool). b || has_twins (drop (i + 1) ns)) (go (used (node_at ns i)) refl e) ∙ sym (has_split (rw size l))
-    where
-      go : (u : Bool) → used (node_at ns i) ≡ u → j ≡ cond u (i + 1) 256 → any_twin (node_at ns i) (drop j ns) ≡ any_twin (node_at ns i) (drop (i + 1) ns)
-      go true u e = rw e
-      go false u e = any_unused (node_at ns i) (drop j ns) u ∙ sym (any_unused (node_at ns i) (drop (i + 1) ns) u)
+  pub has_unused : i < length ns → used (node_at ns i) ≡ false → has_twins (drop i ns) ≡ has_twins (drop (i + 1) ns)
+  has_unused lt u = has_split lt ∙ ap (λ (b : Bool). b || has_twins (drop (i + 1) ns)) (any_unused (node_at ns i) (drop (i + 1) ns) u)
 
   pub has_end : length ns ≤ i → has_twins (drop i ns) ≡ false
   unfolding has_twins

@@ -43,14 +43,6 @@ pub record Place (ns : List Node) (p i : ℕ) : Type 0 where
   pub opened : Opens ns p
   pub within : i ≤ direct_of ns p
 
--- a number that is no node's counts as 0
-pub number_low : (c d : ℕ) → c ≡ cond (ltb d 256) d 0 → c < 256
-number_low c d e = go (ltb d 256) refl e
-  where
-    go : (b : Bool) → ltb d 256 ≡ b → c ≡ cond b d 0 → c < 256
-    go true q z = omega (arith, ltb-true d 256 q)
-    go false q z = omega arith
-
 module _ (ns : List Node) (w : WellFormed ns) where
   depth_up : (k : ℕ) → Opens ns (suc k) → length (to ns (suc k)) ≡ suc (length (to ns (up ns (suc k))))
   depth_up k o = ap length (to_up ns w k (open_used ns (suc k) o)) ∙ length_child (to ns (up ns (suc k))) (ix ns (suc k))
@@ -232,3 +224,11 @@ module _ (ns : List Node) (w : WellFormed ns) where
 
   pub child_not : (p i c : ℕ) → open_child ns p i ≡ suc c → HeadNot p (rest ns (suc c) 0)
   child_not p i c e = subst (HeadNot p) (sym (child_head p i c e).1) (λ z. omega (arith, ap (λ (k : ℕ). length (to ns k)) z, deeper ns w p i c e))
+
+-- a number that is no node's counts as 0
+pub number_low : (c d : ℕ) → c ≡ cond (ltb d 256) d 0 → c < 256
+number_low c d e = go (ltb d 256) refl e
+  where
+    go : (b : Bool) → ltb d 256 ≡ b → c ≡ cond b d 0 → c < 256
+    go true q z = omega (arith, ltb-true d 256 q)
+    go false q z = omega arith

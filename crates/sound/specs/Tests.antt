@@ -1,5 +1,5 @@
 -- The parts of the soundness test.
-use Rattle.std.specs.Prelude.{ℕ, zero, suc, ◌+◌, ◌-◌, ◌<◌, ◌≡◌, Bool, true, false, cond, not, ◌&&◌, ◌||◌, List, [], ◌∷◌, length, get_or, drop, replicate, eqb, ltb, leb}
+use Rattle.std.specs.Prelude.{ℕ, zero, suc, ◌+◌, ◌-◌, ◌<◌, ◌≡◌, Bool, true, false, cond, not, ◌&&◌, ◌||◌, Option, Some, None, List, [], ◌∷◌, length, get_or, drop, replicate, eqb, ltb, leb}
 use Rattle.model.specs.declared.Node.{Node}
 use Rattle.model.specs.declared.Model.{Model}
 use Rattle.model.specs.declared.Region.{Region}
@@ -13,9 +13,6 @@ use Rattle.model.specs.Sound.{capture_ok, blank, same_region, same_list}
 unfoldable pub all_from : (ℕ → Node → Bool) → ℕ → List Node → Bool
 all_from t k [] = true
 all_from t k (n ∷ ns) = t k n && all_from t (suc k) ns
-
-abbrev pub zeros : ℕ → ℕ → ℕ → ℕ → ℕ → ℕ → Bool
-zeros a b c d e f = eqb a 0 && eqb b 0 && eqb c 0 && eqb d 0 && eqb e 0 && eqb f 0
 
 -- a node in use, with its parent p
 abbrev pub seated : Node → Node → Bool
@@ -58,9 +55,9 @@ unfoldable pub totals_ok : List Node → Bool
 totals_ok ns = all_from (λ k n. total_is n (parts k (drop 1 ns))) 0 ns
 
 -- the sums of the open children's totals, or one of them does not fit, and then some total is wrong
-pub record Summed (ns : List Node) (fit : Bool) (of : List ℕ) : Type 0 where
-  pub sums : fit ≡ true → (p : ℕ) → p < node_places → get_or of p 0 ≡ parts p (drop 1 ns)
-  pub too_large : fit ≡ false → totals_ok ns ≡ false
+abbrev pub Summed : List Node → Option (List ℕ) → Type 0
+Summed ns (Some of) = (p : ℕ) → p < node_places → get_or of p 0 ≡ parts p (drop 1 ns)
+Summed ns None = totals_ok ns ≡ false
 
 -- node n, of number c, is the open child of node p at index i
 abbrev pub is_next : Node → ℕ → ℕ → ℕ → Bool

@@ -4,46 +4,32 @@
 use model::{Model, Node, Region};
 use std::io;
 
-fn say(rt: &impl Print, name: &[u8], m: Model) -> io::Result<()> {
-    rt.write_all(name)?;
-    rt.write_all(b": ")?;
-    let answer = tree_list::count(m);
-    print!(rt; "{}", answer.refusal)?;
-    rt.write_all(b"\n")
-}
-
-fn no_node() -> Node {
-    Node {
-        parent: 0,
-        index: 0,
-        entry: 0,
-        direct: 0,
-        total: 0,
-        version: 0,
-        open: false,
-        ongoing: false,
-    }
+fn say(rt: &impl Print, name: &str, m: Model) -> io::Result<()> {
+    let number = match tree_list::count(m) {
+        Ok(_) => 0,
+        Err(refusal) => u64::from(refusal),
+    };
+    println!(rt; "{name}: {number}")
 }
 
 fn open_node(parent: u64, index: u64, entry: u64, direct: u64, total: u64) -> Node {
     Node {
-        parent: parent,
-        index: index,
-        entry: entry,
-        direct: direct,
-        total: total,
-        version: 0,
+        parent,
+        index,
+        entry,
+        direct,
+        total,
         open: true,
-        ongoing: false,
+        ..Node::default()
     }
 }
 
 fn followed_node(parent: u64, index: u64, entry: u64, direct: u64) -> Node {
     Node {
-        parent: parent,
-        index: index,
-        entry: entry,
-        direct: direct,
+        parent,
+        index,
+        entry,
+        direct,
         total: direct,
         version: 3,
         open: false,
@@ -53,20 +39,15 @@ fn followed_node(parent: u64, index: u64, entry: u64, direct: u64) -> Node {
 
 fn region(start: u64, node: u64, offset: u64, length: u64) -> Region {
     Region {
-        start: start,
-        node: node,
-        offset: offset,
-        length: length,
+        start,
+        node,
+        offset,
+        length,
     }
 }
 
 fn no_rows() -> Model {
-    let mut m = Model {
-        nodes: [no_node(); 256],
-        regions: [region(0, 0, 0, 0); 512],
-        region_count: 0,
-        published: 0,
-    };
+    let mut m = Model::default();
     m.nodes[0].open = true;
     m
 }
@@ -86,7 +67,7 @@ fn small() -> Model {
     let mut m = flat(3);
     m.nodes[0].total = 5;
     m.nodes[1] = open_node(0, 1, 7, 2, 2);
-    m.nodes[2] = followed_node(1, 0, 8, 18446744073709551615);
+    m.nodes[2] = followed_node(1, 0, 8, u64::MAX);
     m.regions[0] = region(0, 0, 0, 2);
     m.regions[1] = region(2, 1, 0, 2);
     m.regions[2] = region(4, 0, 2, 1);
@@ -113,12 +94,10 @@ fn last_open() -> Model {
 fn chain() -> Model {
     let mut m = flat(1);
     m.nodes[0].total = 256;
-    let mut k: usize = 1;
-    while k < 256 {
+    for k in 1..256 {
         let n = k as u64;
         m.nodes[k] = open_node(n - 1, 0, n, 1, 256 - n);
         m.regions[k] = region(n, n, 0, 1);
-        k += 1;
     }
     m.region_count = 256;
     m.published = 256;
@@ -130,13 +109,11 @@ fn comb() -> Model {
     let mut m = flat(511);
     m.nodes[0].total = 766;
     m.regions[0] = region(0, 0, 0, 2);
-    let mut k: usize = 1;
-    while k < 256 {
+    for k in 1..256 {
         let n = k as u64;
         m.nodes[k] = open_node(0, 2 * n - 1, n, 1, 1);
         m.regions[2 * k - 1] = region(3 * n - 1, n, 0, 1);
         m.regions[2 * k] = region(3 * n, 0, 2 * n, 2);
-        k += 1;
     }
     m.regions[510].length = 1;
     m.region_count = 511;
@@ -146,10 +123,12 @@ fn comb() -> Model {
 
 // Every number the same.
 fn full(x: u64, open: bool) -> Model {
-    let mut n = open_node(x, x, x, x, x);
-    n.version = x;
-    n.open = open;
-    n.ongoing = open;
+    let n = Node {
+        version: x,
+        open,
+        ongoing: open,
+        ..open_node(x, x, x, x, x)
+    };
     Model {
         nodes: [n; 256],
         regions: [region(x, x, x, x); 512],
@@ -159,13 +138,13 @@ fn full(x: u64, open: bool) -> Model {
 }
 
 fn sound_models(rt: &impl Print) -> io::Result<()> {
-    say(rt, b"no rows", no_rows())?;
-    say(rt, b"three rows", flat(3))?;
-    say(rt, b"as many rows as there can be", flat(4294967295))?;
-    say(rt, b"an open row and a followed one", small())?;
-    say(rt, b"the last row open", last_open())?;
-    say(rt, b"a chain of 255 open nodes", chain())?;
-    say(rt, b"as many regions as there can be", comb())?;
+    say(rt, "no rows", no_rows())?;
+    say(rt, "three rows", flat(3))?;
+    say(rt, "as many rows as there can be", flat(4_294_967_295))?;
+    say(rt, "an open row and a followed one", small())?;
+    say(rt, "the last row open", last_open())?;
+    say(rt, "a chain of 255 open nodes", chain())?;
+    say(rt, "as many regions as there can be", comb())?;
     Ok(())
 }
 
@@ -173,104 +152,104 @@ fn capture_faults(rt: &impl Print) -> io::Result<()> {
     let mut a = no_rows();
     a.nodes[0].open = false;
     a.nodes[0].ongoing = true;
-    say(rt, b"the capture not open", a)?;
+    say(rt, "the capture not open", a)?;
     let mut b = small();
     b.nodes[0].entry = 1;
-    say(rt, b"the capture with an entry", b)?;
+    say(rt, "the capture with an entry", b)?;
     let mut c = small();
     c.nodes[0].parent = 1;
-    say(rt, b"the capture with a parent", c)?;
+    say(rt, "the capture with a parent", c)?;
     let mut d = small();
     d.nodes[0].index = 1;
-    say(rt, b"the capture with an index", d)?;
+    say(rt, "the capture with an index", d)?;
     let mut e = small();
     e.nodes[0].version = 1;
-    say(rt, b"the capture with a version", e)?;
+    say(rt, "the capture with a version", e)?;
     Ok(())
 }
 
 fn node_faults(rt: &impl Print) -> io::Result<()> {
     let mut a = small();
     a.nodes[1].entry = 0;
-    say(rt, b"entry 0", a)?;
+    say(rt, "entry 0", a)?;
     let mut b = small();
     b.nodes[3] = followed_node(2, 0, 9, 0);
-    say(rt, b"a closed parent", b)?;
+    say(rt, "a closed parent", b)?;
     let mut c = small();
     c.nodes[2].parent = 9;
-    say(rt, b"a parent that is not in use", c)?;
+    say(rt, "a parent that is not in use", c)?;
     let mut d = small();
     d.nodes[2].parent = 256;
-    say(rt, b"a parent past the places", d)?;
+    say(rt, "a parent past the places", d)?;
     let mut e = small();
     e.nodes[2].index = 2;
-    say(rt, b"an index at the parent's count", e)?;
+    say(rt, "an index at the parent's count", e)?;
     let mut f = small();
     f.nodes[1].direct = 0;
     f.nodes[1].total = 0;
-    say(rt, b"an open node without children", f)?;
+    say(rt, "an open node without children", f)?;
     Ok(())
 }
 
 fn pair_faults(rt: &impl Print) -> io::Result<()> {
     let mut a = small();
     a.nodes[255] = followed_node(1, 0, 9, 4);
-    say(rt, b"a twin, both followed", a)?;
+    say(rt, "a twin, both followed", a)?;
     let mut b = small();
     b.nodes[3] = followed_node(0, 1, 9, 4);
-    say(rt, b"a twin, one of them open", b)?;
+    say(rt, "a twin, one of them open", b)?;
     let mut c = small();
     c.nodes[0].total = 7;
     c.nodes[3] = open_node(0, 1, 9, 2, 2);
     c.published = 7;
-    say(rt, b"a twin, both open", c)?;
+    say(rt, "a twin, both open", c)?;
     let mut d = small();
     d.nodes[3] = open_node(3, 0, 9, 1, 1);
-    say(rt, b"a node that is its own parent", d)?;
+    say(rt, "a node that is its own parent", d)?;
     let mut e = small();
     e.nodes[3] = open_node(4, 0, 9, 1, 1);
     e.nodes[4] = open_node(3, 0, 9, 1, 1);
-    say(rt, b"two nodes, each the other's parent", e)?;
+    say(rt, "two nodes, each the other's parent", e)?;
     Ok(())
 }
 
 fn total_faults(rt: &impl Print) -> io::Result<()> {
     let mut a = small();
     a.nodes[0].total = 6;
-    say(rt, b"a total too large", a)?;
+    say(rt, "a total too large", a)?;
     let mut b = small();
     b.nodes[1].total = 1;
-    say(rt, b"a total below the count", b)?;
+    say(rt, "a total below the count", b)?;
     let mut c = small();
     c.nodes[2].total = 0;
-    say(rt, b"a closed node with total unlike direct", c)?;
+    say(rt, "a closed node with total unlike direct", c)?;
     let mut d = comb();
-    d.nodes[9].total = 18446744073709551615;
-    say(rt, b"totals whose sum passes 64 bits", d)?;
+    d.nodes[9].total = u64::MAX;
+    say(rt, "totals whose sum passes 64 bits", d)?;
     Ok(())
 }
 
 fn region_faults(rt: &impl Print) -> io::Result<()> {
     let mut a = small();
     a.regions[1].start = 3;
-    say(rt, b"a region's start", a)?;
+    say(rt, "a region's start", a)?;
     let mut b = small();
     b.regions[1].node = 2;
-    say(rt, b"a region's node", b)?;
+    say(rt, "a region's node", b)?;
     let mut c = small();
     c.regions[2].offset = 1;
-    say(rt, b"a region's offset", c)?;
+    say(rt, "a region's offset", c)?;
     let mut d = small();
     d.regions[2].length = 2;
-    say(rt, b"a region past its node's end", d)?;
+    say(rt, "a region past its node's end", d)?;
     let mut e = small();
     e.regions[1].length = 0;
-    say(rt, b"a region of length 0", e)?;
+    say(rt, "a region of length 0", e)?;
     let mut f = flat(3);
     f.regions[0].length = 2;
     f.regions[1] = region(2, 0, 2, 1);
     f.region_count = 2;
-    say(rt, b"two regions in place of one", f)?;
+    say(rt, "two regions in place of one", f)?;
     Ok(())
 }
 
@@ -278,66 +257,66 @@ fn region_list_faults(rt: &impl Print) -> io::Result<()> {
     let mut a = small();
     a.regions[0].length = 3;
     a.regions[1] = region(3, 1, 0, 2);
-    a.regions[2] = region(0, 0, 0, 0);
+    a.regions[2] = Region::default();
     a.region_count = 2;
-    say(rt, b"an open row in the middle of a region", a)?;
+    say(rt, "an open row in the middle of a region", a)?;
     let mut b = last_open();
-    b.regions[2] = region(0, 0, 0, 0);
+    b.regions[2] = Region::default();
     b.region_count = 2;
-    say(rt, b"no region for the last open row", b)?;
+    say(rt, "no region for the last open row", b)?;
     let mut c = small();
     c.region_count = 2;
-    say(rt, b"a region count too small", c)?;
+    say(rt, "a region count too small", c)?;
     let mut d = small();
     d.region_count = 4;
-    say(rt, b"a region count too large", d)?;
+    say(rt, "a region count too large", d)?;
     let mut e = comb();
-    e.region_count = 18446744073709551615;
-    say(rt, b"a region count past the places", e)?;
+    e.region_count = u64::MAX;
+    say(rt, "a region count past the places", e)?;
     let mut f = comb();
-    f.regions[510] = region(0, 0, 0, 0);
-    say(rt, b"the last region zero", f)?;
+    f.regions[510] = Region::default();
+    say(rt, "the last region zero", f)?;
     Ok(())
 }
 
 fn unused_faults(rt: &impl Print) -> io::Result<()> {
     let mut a = small();
     a.nodes[3].parent = 1;
-    say(rt, b"an unused place with a parent", a)?;
+    say(rt, "an unused place with a parent", a)?;
     let mut b = small();
     b.nodes[3].index = 1;
-    say(rt, b"an unused place with an index", b)?;
+    say(rt, "an unused place with an index", b)?;
     let mut c = small();
     c.nodes[3].entry = 1;
-    say(rt, b"an unused place with an entry", c)?;
+    say(rt, "an unused place with an entry", c)?;
     let mut d = small();
     d.nodes[3].direct = 1;
-    say(rt, b"an unused place with a count", d)?;
+    say(rt, "an unused place with a count", d)?;
     let mut e = small();
     e.nodes[3].total = 1;
-    say(rt, b"an unused place with a total", e)?;
+    say(rt, "an unused place with a total", e)?;
     let mut f = small();
     f.nodes[255].version = 1;
-    say(rt, b"an unused place with a version", f)?;
+    say(rt, "an unused place with a version", f)?;
     let mut g = small();
     g.regions[511].offset = 1;
-    say(rt, b"an unused region place that is not zero", g)?;
+    say(rt, "an unused region place that is not zero", g)?;
     Ok(())
 }
 
 fn count_faults(rt: &impl Print) -> io::Result<()> {
     let mut a = small();
     a.published = 6;
-    say(rt, b"a published count one too large", a)?;
+    say(rt, "a published count one too large", a)?;
     let mut b = small();
     b.published = 4;
-    say(rt, b"a published count one too small", b)?;
-    say(rt, b"a row more than there can be", flat(4294967296))?;
-    say(rt, b"every number 0", full(0, false))?;
+    say(rt, "a published count one too small", b)?;
+    say(rt, "a row more than there can be", flat(4_294_967_296))?;
+    say(rt, "every number 0", full(0, false))?;
     say(
         rt,
-        b"every number as large as it can be",
-        full(18446744073709551615, true),
+        "every number as large as it can be",
+        full(u64::MAX, true),
     )?;
     Ok(())
 }
@@ -351,6 +330,5 @@ fn main(rt: HostRuntime) -> io::Result<()> {
     region_faults(&rt)?;
     region_list_faults(&rt)?;
     unused_faults(&rt)?;
-    count_faults(&rt)?;
-    Ok(())
+    count_faults(&rt)
 }

@@ -14,7 +14,9 @@ use Rattle.model.specs.Nodes.{node_at, used, is_open, is_ongoing, children}
 use Rattle.model.specs.Rows.{row_of}
 use Rattle.model.specs.Logs.{State, state, rows_change, text_change, logged_if}
 use Rattle.model.specs.Close.{closing_order, close_each}
-use Rattle.model.specs.Update.{Step, text, grow, followed, visit, added, end_of, text_step, grow_step, step, steps, visits as all_visits}
+use Rattle.model.specs.Update.{followed, visit, added, end_of, text_step, grow_step, step, steps, visits as all_visits}
+use Rattle.model.specs.declared.Step.{Step}
+use Rattle.model.specs.declared.Step.TheVariants.{Text, Grow}
 use Rattle.steps.proofs.ClosingAll.{close_all_lem}
 use Rattle.steps.proofs.Visits.{ongoing_used}
 use Rattle.lists.proofs.Numbers.{count_le}
@@ -47,7 +49,7 @@ module _ (ns : List Node) where
   unfolding visit
   length_visit zero k = refl
   length_visit (suc f) k =
-      omega (arith, length-append (flat_map (λ j. visit ns f j) (followed ns k)) (grow k ∷ []), length_each f (length_visit f) (followed ns k))
+      omega (arith, length-append (flat_map (λ j. visit ns f j) (followed ns k)) (Grow k ∷ []), length_each f (length_visit f) (followed ns k))
 
 module _ (ns : List Node) (w : WellFormed ns) where
   ascend : (f k : ℕ) → Used ns k → Ascends ns used (Under (to ns k)) (visited ns f k)
@@ -70,13 +72,13 @@ one_log false x = omega arith
 
 step_short : (t : List ℕ) (s : State) (e : Step) → length (step t s e).log ≤ suc (length s.log)
 unfolding step text_step grow_step
-step_short t s (text zero) = omega arith
-step_short t s (text (suc k)) =
+step_short t s (Text zero) = omega arith
+step_short t s (Text (suc k)) =
     let n = node_at s.nodes (suc k) in
     let b = ltb 0 (added t n) || not (eqb n.version (item_version t n.entry)) in
     let x = text_change (row_of s.nodes (suc k)) in
     omega (arith, one_log b x, length-append s.log (logged_if b x))
-step_short t s (grow k) =
+step_short t s (Grow k) =
     let n = node_at s.nodes k in
     let b = is_open n && ltb 0 (added t n) in
     let x = rows_change (end_of s.nodes k) 0 (added t n) in
@@ -89,11 +91,11 @@ steps_short t (e ∷ es) s = omega (arith, step_short t s e, steps_short t es (s
 
 step_longer : (t : List ℕ) (s : State) (e : Step) → length s.log ≤ length (step t s e).log
 unfolding step text_step grow_step
-step_longer t s (text zero) = omega arith
-step_longer t s (text (suc k)) =
+step_longer t s (Text zero) = omega arith
+step_longer t s (Text (suc k)) =
     let n = node_at s.nodes (suc k) in
     omega (arith, length-append s.log (logged_if (ltb 0 (added t n) || not (eqb n.version (item_version t n.entry))) (text_change (row_of s.nodes (suc k)))))
-step_longer t s (grow k) =
+step_longer t s (Grow k) =
     let n = node_at s.nodes k in
     omega (arith, length-append s.log (logged_if (is_open n && ltb 0 (added t n)) (rows_change (end_of s.nodes k) 0 (added t n))))
 
@@ -106,7 +108,7 @@ steps_longer t (e ∷ es) s = omega (arith, step_longer t s e, steps_longer t es
 -- the capture has no text
 root_short : (t : List ℕ) (ns : List Node) (s : State) (f : ℕ) → length (steps t s (visit ns (suc f) 0)).log < length s.log + length (visit ns (suc f) 0)
 unfolding visit steps step text_step
-root_short t ns s f = omega (arith, steps_short t (flat_map (λ j. visit ns f j) (followed ns 0) ++ (grow 0 ∷ [])) s)
+root_short t ns s f = omega (arith, steps_short t (flat_map (λ j. visit ns f j) (followed ns 0) ++ (Grow 0 ∷ [])) s)
 
 pub update_short : (t : List ℕ) (ns : List Node) → WellFormed ns → length (steps t (state ns []) (all_visits ns)).log ≤ 511
 update_short t ns w = omega (arith, root_short t ns (state ns []) longest_chain, visits_short ns w)

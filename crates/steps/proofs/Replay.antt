@@ -17,7 +17,7 @@ use Rattle.model.specs.declared.Model.{Model}
 use Rattle.model.specs.Places.{pad, log_places}
 use Rattle.model.specs.Rows.{paths}
 use Rattle.model.specs.Sound.{same_list}
-use Rattle.model.specs.Logs.{State, state, logged_if, rows_change, text_change, log_of, no_record}
+use Rattle.model.specs.Logs.{kind_number, State, state, logged_if, rows_change, text_change, log_of, no_record}
 use Rattle.model.specs.Replay.{records_of, held, replays, Held, fits, replay_one, replay_all, all_fit, read_in}
 use Rattle.steps.specs.Telling.{Tells, Told, nil, cons, Tale}
 use Rattle.steps.proofs.Settling.{list_same}
@@ -98,9 +98,9 @@ fits_one {h} {l} x t s = go t.kind
     e : length h ≡ length l
     e = holds_length s
 
-    go : (x.kind ≡ 1) ⊎ ((x.kind ≡ 2) × (x.position < length l) × (x.removed ≡ 0) × (x.added ≡ 0)) → eqb x.kind 1 && leb (x.position + x.removed) (length h) || eqb x.kind 2 && ltb x.position (length h) && eqb x.removed 0 && eqb x.added 0 ≡ true
-    go (inl k) = rw (and (eq-eqb x.kind 1 k) (le-leb (x.position + x.removed) (length h) (rw e t.room)))
-    go (inr k) = rw (and (and (and (eq-eqb x.kind 2 k.0) (lt-ltb x.position (length h) (rw e k.1))) (eq-eqb x.removed 0 k.2)) (eq-eqb x.added 0 k.3)) (or-true (eqb x.kind 1 && leb (x.position + x.removed) (length h)))
+    go : (kind_number x.kind ≡ 1) ⊎ ((kind_number x.kind ≡ 2) × (x.position < length l) × (x.removed ≡ 0) × (x.added ≡ 0)) → eqb (kind_number x.kind) 1 && leb (x.position + x.removed) (length h) || eqb (kind_number x.kind) 2 && ltb x.position (length h) && eqb x.removed 0 && eqb x.added 0 ≡ true
+    go (inl k) = rw (and (eq-eqb (kind_number x.kind) 1 k) (le-leb (x.position + x.removed) (length h) (rw e t.room)))
+    go (inr k) = rw (and (and (and (eq-eqb (kind_number x.kind) 2 k.0) (lt-ltb x.position (length h) (rw e k.1))) (eq-eqb x.removed 0 k.2)) (eq-eqb x.added 0 k.3)) (or-true (eqb (kind_number x.kind) 1 && leb (x.position + x.removed) (length h)))
 
 -- every record fits where it is applied, and what is held at the end is what is listed
 replay : {l m : List Path} {xs : List Record} → Told l xs m → (h : List Held) → Holds h l → (all_fit h xs ≡ true) × Holds (replay_all h xs) m

@@ -12,7 +12,7 @@ use lib.ListN.{length}
 use Rattle.lists.proofs.Numbers.{count_less, count_all}
 use Rattle.model.specs.declared.Node.{Node}
 use Rattle.model.specs.declared.Model.{Model}
-use Rattle.model.specs.declared.RegionAt.TheVariants.{At, None}
+use Rattle.std.specs.Prelude.{Some, None}
 use Rattle.model.specs.Places.{region_places}
 use Rattle.model.specs.Nodes.{node_at, direct_of, is_open}
 use Rattle.model.specs.Rows.{Row, rows, row_total, row_at}
@@ -72,7 +72,7 @@ module _ (m : Model) (S : Sound m) where
   pub row_none : (r : ℕ) → region_at (live m) r ≡ None → row_total m.nodes ≤ r
   row_none r h = find_none m (rows m.nodes) laid_rows few neat r h
 
-  pub found_inside : (r i : ℕ) → region_at (live m) r ≡ At i → r < row_total m.nodes
+  pub found_inside : (r i : ℕ) → region_at (live m) r ≡ Some i → r < row_total m.nodes
   found_inside r i h = go (dec_lt r (row_total m.nodes))
     where
       go : Dec (r < row_total m.nodes) → r < row_total m.nodes
@@ -82,7 +82,7 @@ module _ (m : Model) (S : Sound m) where
           let z : ◌≡◌ {A = ℕ} 0 1 = cc in
           absurd (omega arith)
 
-  pub found_row : (r i : ℕ) → region_at (live m) r ≡ At i → row_at m.nodes r ≡ ((at (live m) i).node, child_at (at (live m) i) r)
+  pub found_row : (r i : ℕ) → region_at (live m) r ≡ Some i → row_at m.nodes r ≡ ((at (live m) i).node, child_at (at (live m) i) r)
   found_row r i h = find_row m (rows m.nodes) laid_rows few neat r i (0, 0) h
 
   module _ (q : Model) (ns : List Node) (e : q ≡ with_nodes m ns) where

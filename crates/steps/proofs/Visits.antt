@@ -16,7 +16,9 @@ use Rattle.model.specs.Table.{item_count, item_ongoing, item_version, entries}
 use Rattle.model.specs.Nodes.{no_node, node_at, direct_of, used, is_open, is_ongoing, child_by, children_from, children, keep, with_version, with_direct, with_ongoing, or_none}
 use Rattle.model.specs.Rows.{row_total, row_of, paths}
 use Rattle.model.specs.Logs.{State, state, rows_change, text_change, logged_if}
-use Rattle.model.specs.Update.{Step, text, grow, followed, visit, went_back, any_went_back, added, end_of, text_step, grow_step, step, steps, visits as all_visits}
+use Rattle.model.specs.Update.{followed, visit, went_back, any_went_back, added, end_of, text_step, grow_step, step, steps, visits as all_visits}
+use Rattle.model.specs.declared.Step.{Step}
+use Rattle.model.specs.declared.Step.TheVariants.{Text, Grow}
 use Rattle.steps.specs.Changes.{Quiet}
 use Rattle.steps.specs.Course.{Ready, node_of, Course, ends, goes}
 use Rattle.steps.specs.Growth.{added_rows, growth}
@@ -48,8 +50,8 @@ steps_append t s (e ∷ a) b = steps_append t (step t s e) a b
 growth_append : (t : List ℕ) (ns : List Node) (a b : List Step) → growth t ns (a ++ b) ≡ growth t ns a + growth t ns b
 unfolding growth
 growth_append t ns [] b = omega arith
-growth_append t ns (text k ∷ a) b = growth_append t ns a b
-growth_append t ns (grow k ∷ a) b = omega (arith, growth_append t ns a b)
+growth_append t ns (Text k ∷ a) b = growth_append t ns a b
+growth_append t ns (Grow k ∷ a) b = omega (arith, growth_append t ns a b)
 
 course_append : (t : List ℕ) (s : State) (a b : List Step) → Course t s a → Course t (steps t s a) b → Course t s (a ++ b)
 unfolding steps
@@ -65,11 +67,11 @@ neither false b e = (refl, e)
 back_append : (t : List ℕ) (ns : List Node) (a b : List Step) → any_went_back t ns (a ++ b) ≡ false → (any_went_back t ns a ≡ false) × (any_went_back t ns b ≡ false)
 unfolding any_went_back
 back_append t ns [] b e = (refl, e)
-back_append t ns (text k ∷ a) b e =
+back_append t ns (Text k ∷ a) b e =
     let r = neither (went_back t ns k) (any_went_back t ns (a ++ b)) e in
     let s = back_append t ns a b r.1 in
     (rw r.0 s.0, s.1)
-back_append t ns (grow k ∷ a) b e = back_append t ns a b e
+back_append t ns (Grow k ∷ a) b e = back_append t ns a b e
 
 not_back : (t : List ℕ) (ns : List Node) (k : ℕ) → went_back t ns k ≡ false → direct_of ns k ≤ item_count t (node_at ns k).entry
 unfolding went_back
@@ -358,7 +360,7 @@ module _ (t : List ℕ) (ns : List Node) (w : WellFormed ns) where
       G : Stepped walked (grow_step t walked k) k
       G = grow_stepped t walked W.well k at_growth.live at_growth.more
 
-      visit_rows : row_total (grow_step t walked k).nodes ≡ row_total s.nodes + growth t ns (text k ∷ (Below b ++ (grow k ∷ [])))
+      visit_rows : row_total (grow_step t walked k).nodes ≡ row_total s.nodes + growth t ns (Text k ∷ (Below b ++ (Grow k ∷ [])))
       unfolding growth
       visit_rows = omega (
         arith,
@@ -366,15 +368,15 @@ module _ (t : List ℕ) (ns : List Node) (w : WellFormed ns) where
         W.rows,
         grown_row_total t walked W.well k at_growth.live at_growth.more,
         same_rows,
-        growth_append t ns (Below b) (grow k ∷ []),
+        growth_append t ns (Below b) (Grow k ∷ []),
       )
 
-      visit_one : Walked (Under (to ns k)) (text k ∷ (Below b ++ (grow k ∷ []))) s (grow_step t walked k)
+      visit_one : Walked (Under (to ns k)) (Text k ∷ (Below b ++ (Grow k ∷ []))) s (grow_step t walked k)
       unfolding step
       visit_one = record {
         well = G.well;
         tale = tale_trans T.0.tale (tale_trans W.tale G.tale);
-        course = goes at_text (course_append t texted (Below b) (grow k ∷ []) W.course (goes at_growth ends));
+        course = goes at_text (course_append t texted (Below b) (Grow k ∷ []) W.course (goes at_growth ends));
         rows = visit_rows;
         away = λ m z.
             let n : m ≢ k = λ e. z (rw e u) (inl (ap (to ns) e)) in
@@ -388,9 +390,9 @@ module _ (t : List ℕ) (ns : List Node) (w : WellFormed ns) where
   visits zero k u d nb s ws same = absurd (omega (arith, chain_length ns longest_chain depth k (reach_all ns w k u)))
   visits (suc f) k u d nb s ws same =
       let M = each f (followed ns k) in
-      let q = neither (went_back t ns k) (any_went_back t ns (M ++ (grow k ∷ []))) nb in
-      let r = back_append t ns M (grow k ∷ []) q.1 in
-      rw (steps_append t (text_step t s k) M (grow k ∷ []))
+      let q = neither (went_back t ns k) (any_went_back t ns (M ++ (Grow k ∷ []))) nb in
+      let r = back_append t ns M (Grow k ∷ []) q.1 in
+      rw (steps_append t (text_step t s k) M (Grow k ∷ []))
       (visit_one f k u d (visits f) s ws same (is_open (node_at ns k)) r.0 q.0)
 
 -- the whole update
@@ -418,8 +420,8 @@ grow_fuller t s k R o = grown_row_total t s R.well k R.live R.more ∙ rw o
 -- a step takes no row away
 step_fuller : (t : List ℕ) (s : State) (e : Step) → Ready t s.nodes (node_of e) → row_total s.nodes ≤ row_total (step t s e).nodes
 unfolding step
-step_fuller t s (text k) R = omega (arith, text_row_total t s R.well k R.live)
-step_fuller t s (grow k) R = omega (arith, grown_row_total t s R.well k R.live R.more)
+step_fuller t s (Text k) R = omega (arith, text_row_total t s R.well k R.live)
+step_fuller t s (Grow k) R = omega (arith, grown_row_total t s R.well k R.live R.more)
 
 pub course_fuller : (t : List ℕ) (s : State) (es : List Step) → Course t s es → row_total s.nodes ≤ row_total (steps t s es).nodes
 unfolding steps

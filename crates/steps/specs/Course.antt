@@ -4,7 +4,9 @@ use Rattle.model.specs.declared.Node.{Node}
 use Rattle.model.specs.Table.{entries, item_count}
 use Rattle.model.specs.Nodes.{node_at, direct_of}
 use Rattle.model.specs.Logs.{State}
-use Rattle.model.specs.Update.{Step, text, grow, step}
+use Rattle.model.specs.Update.{step}
+use Rattle.model.specs.declared.Step.{Step}
+use Rattle.model.specs.declared.Step.TheVariants.{Text, Grow}
 use Rattle.tree.specs.WellFormed.{Used, WellFormed}
 
 -- node k is in use, and its item did not go back
@@ -15,8 +17,8 @@ pub record Ready (t : List ℕ) (ns : List Node) (k : ℕ) : Type 0 where
   pub more : direct_of ns k ≤ item_count t (node_at ns k).entry
 
 abbrev pub node_of : Step → ℕ
-node_of (text k) = k
-node_of (grow k) = k
+node_of (Text k) = k
+node_of (Grow k) = k
 
 pub data Course (t : List ℕ) : State → List Step → Type 0 where
   ends : {s : State} → Course t s []

@@ -3,13 +3,13 @@ use Rattle.std.specs.Prelude.{◌≡◌, ◌⊎◌, List, [], ◌∷◌, ◌++�
 use Rattle.model.specs.declared.Model.{Model}
 use Rattle.model.specs.declared.Record.{Record}
 use Rattle.model.specs.Rows.{paths}
-use Rattle.model.specs.Logs.{State}
+use Rattle.model.specs.Logs.{kind_number, State}
 use Rattle.steps.specs.Settled.{Sound}
 use Rattle.paths.specs.Order.{Path}
 
 -- what a record says of the listings before and after it
 pub record Tells (l : List Path) (x : Record) (m : List Path) : Type 0 where
-  pub kind : (x.kind ≡ 1) ⊎ ((x.kind ≡ 2) × (x.position < length l) × (x.removed ≡ 0) × (x.added ≡ 0))
+  pub kind : (kind_number x.kind ≡ 1) ⊎ ((kind_number x.kind ≡ 2) × (x.position < length l) × (x.removed ≡ 0) × (x.added ≡ 0))
   pub room : x.position + x.removed ≤ length l
   pub news : List Path
   pub many : length news ≡ x.added

@@ -1,5 +1,5 @@
 -- The search for an entry: a hit, a miss and the end; and that what is found is an entry of the table.
-use Prim.Native.Nat.{ℕ, zero, suc, ◌+◌, ◌-◌, ◌*◌, ◌≤◌, ◌<◌, ◌%◌}
+use Prim.Native.Nat.{ℕ, zero, suc, ◌+◌, ◌-◌, ◌*◌, ◌≤◌, ◌<◌}
 use native.Mathlib.Nat.{add-zero}
 use native.Mathlib.Numerals.{add-one}
 use native.Mathlib.Omega.{arith}
@@ -10,8 +10,11 @@ use mathlib.Core.List.{List, []}
 use lib.Dec.{eqb}
 use lib.ListN.{length, get_or, take, drop, length-drop}
 use lib.Seq.{length-take-le}
-use borrow.Author.Tests.{eq-eqb, ne_eqb, lt-ltb}
-use Rattle.model.specs.Table.{word, entries, readable, first_entry, child_entry, entry_words, child_words}
+use borrow.Author.Tests.{eq-eqb, ne_eqb}
+use Rattle.std.proofs.Common.{Some, None}
+use Rattle.model.proofs.UnlessZero.{some_is, none_is, some_number, none_number}
+use Rattle.model.specs.Places.{unless_zero}
+use Rattle.model.specs.Table.{word, entries, first_entry, child_entry, entry_words, child_words}
 
 module _ (t : List ℕ) (p i n e : ℕ) (inside : e < n) where
   left : n - e ≡ suc (n - (e + 1))
@@ -49,42 +52,37 @@ first_below t p i (suc n) e = by (eqb (word t e 0) p && eqb (word t e 1) i) (fir
     by false (inr h) = inr (omega arith)
 
 -- the words of a listed child are there
-pub words_inside : (t : List ℕ) (p i e : ℕ) → e ≡ child_entry t p i → (e ≡ 0 → ⊥) → 5 * e + 5 ≤ length t
+pub words_inside : (t : List ℕ) (p i e : ℕ) → Some e ≡ unless_zero (child_entry t p i) → 5 * e + 5 ≤ length t
 unfolding child_entry entries
-words_inside t p i e is some = by (first_below t p i (entries t - 1) 1)
+words_inside t p i e listed = by (first_below t p i (entries t - 1) 1) (some_is _ e listed)
   where
     first : ℕ
     first = first_entry t p i (entries t - 1) 1
 
-    by : (first ≡ 0) ⊎ (first < 1 + (entries t - 1)) → 5 * e + 5 ≤ length t
-    by (inl z) = absurd (some (is ∙ z))
-    by (inr h) = omega (arith, is)
+    by : (first ≡ 0) ⊎ (first < 1 + (entries t - 1)) → (e ≡ first) × (e ≡ 0 → ⊥) → 5 * e + 5 ≤ length t
+    by (inl z) n = absurd (n.1 (n.0 ∙ z))
+    by (inr h) n = omega (arith, n.0, n.1)
 
--- and they are what the lookup gives: none for entry 0, else five from the entry's first one on
-pub words_none : (t : List ℕ) (p i : ℕ) → child_entry t p i ≡ 0 → child_words t p i ≡ []
+-- and they are what the lookup gives: five from the entry's first one on, or none
+pub words_none : (t : List ℕ) (p i : ℕ) → None ≡ unless_zero (child_entry t p i) → child_words t p i ≡ []
 unfolding child_words entry_words
-words_none t p i z = rw z
+words_none t p i unlisted = rw (none_is (child_entry t p i) unlisted)
 
-pub words_some : (t : List ℕ) (p i e : ℕ) → e ≡ child_entry t p i → (e ≡ 0 → ⊥) → child_words t p i ≡ take 5 (drop (5 * e) t)
+pub words_some : (t : List ℕ) (p i e : ℕ) → Some e ≡ unless_zero (child_entry t p i) → child_words t p i ≡ take 5 (drop (5 * e) t)
 unfolding child_words entry_words
-words_some t p i zero is some = absurd (some refl)
-words_some t p i (suc e) is some = rw (← is)
-
-pub readable_empty : (t : List ℕ) → length t ≡ 0 → readable t ≡ false
-unfolding readable
-readable_empty t z = rw z
-
-pub readable_some : (t : List ℕ) → (length t ≡ 0 → ⊥) → readable t ≡ eqb (length t % 5) 0
-unfolding readable
-readable_some t some = rw (lt-ltb 0 (length t) (omega arith))
+words_some t p i e listed = by e (some_is (child_entry t p i) e listed)
+  where
+    by : (e : ℕ) → (e ≡ child_entry t p i) × (e ≡ 0 → ⊥) → entry_words t (child_entry t p i) ≡ take 5 (drop (5 * e) t)
+    by zero n = absurd (n.1 refl)
+    by (suc e) n = rw (← n.0)
 
 -- a child has five words or none
 pub words_whole : (t : List ℕ) (p i : ℕ) → (child_words t p i ≡ []) ⊎ (length (child_words t p i) ≡ 5)
 words_whole t p i = by (child_entry t p i) refl
   where
     by : (e : ℕ) → e ≡ child_entry t p i → (child_words t p i ≡ []) ⊎ (length (child_words t p i) ≡ 5)
-    by zero is = inl (words_none t p i (sym is))
+    by zero is = inl (words_none t p i (none_number _ (sym is)))
     by (suc e) is =
-        let some : suc e ≡ 0 → ⊥ = λ z. omega arith in
-        let h = words_inside t p i (suc e) is some in
-        inr (ap length (words_some t p i (suc e) is some) ∙ length-take-le 5 (drop (5 * suc e) t) (rw length-drop (omega arith)))
+        let listed = some_number _ (suc e) (sym is) (omega arith) in
+        let h = words_inside t p i (suc e) listed in
+        inr (ap length (words_some t p i (suc e) listed) ∙ length-take-le 5 (drop (5 * suc e) t) (rw length-drop (omega arith)))

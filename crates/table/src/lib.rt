@@ -4,6 +4,7 @@
 #![tactic(auto)]
 
 ghost use Rattle.std.specs.Prelude.{◌≡◌};
+ghost use Rattle.model.specs.Places.{unless_zero};
 ghost use Rattle.model.specs.Table.{readable, child_entry, child_words};
 
 use model::ChildIndex;
@@ -12,30 +13,20 @@ use model::ChildIndex;
 pub fn is_readable(table: &[u64]) -> bool
     ensures { result ≡ readable table.now }
 {
-    if table.len() == 0 {
-        return false;
-    }
-    table.len() % 5 == 0
+    !table.is_empty() && table.len() % 5 == 0
 }
 
-// The number of the first entry, from entry 1 on, that is child `index` of item `parent`; 0 if none
-// is listed.
-pub fn child_entry(table: &[u64], parent: u64, index: ChildIndex) -> u64
-    ensures { result ≡ child_entry table.now parent index.0 }
+// The number of the first entry, from entry 1 on, that is child `index` of item `parent`.
+pub fn child_entry(table: &[u64], parent: u64, index: ChildIndex) -> Option<u64>
+    ensures { result ≡ unless_zero (child_entry table.now parent index.0) }
 {
-    let entries = table.len() / 5;
-    let wanted = index.0;
-    let mut entry: usize = 1;
-    while entry < entries {
+    for entry in 1..table.len() / 5 {
         let at = 5 * entry;
-        if table[at] == parent {
-            if table[at + 1] == wanted {
-                return entry as u64;
-            }
+        if table[at] == parent && table[at + 1] == index.0 {
+            return Some(entry as u64);
         }
-        entry += 1;
     }
-    0
+    None
 }
 
 // The five words of child `index` of item `parent`, as that stretch of the table; empty if the
@@ -43,11 +34,9 @@ pub fn child_entry(table: &[u64], parent: u64, index: ChildIndex) -> u64
 pub fn child_words(table: &[u64], parent: u64, index: ChildIndex) -> &[u64]
     ensures { result.now ≡ child_words table.now parent index.0 }
 {
-    let entry = child_entry(table, parent, index) as usize;
-    if entry == 0 {
+    let Some(entry) = child_entry(table, parent, index) else {
         return &table[0..0];
-    }
-    let start = 5 * entry;
-    let end = start + 5;
-    &table[start..end]
+    };
+    let start = 5 * entry as usize;
+    &table[start..start + 5]
 }

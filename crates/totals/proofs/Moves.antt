@@ -21,22 +21,6 @@ use Rattle.tree.proofs.WellFormed.{used_small}
 use Rattle.tree.specs.Paths.{to, Over, here, step}
 use Rattle.tree.specs.WellFormed.{Used, up, ix, WellFormed}
 
-pub movable_more : (more : Bool) (rows total : ℕ) → more ≡ true → Movable more rows total → total + rows < 2 ^ 64
-movable_more true rows total e h = h
-movable_more false rows total e h = absurd (false≢true e)
-
-pub movable_fewer : (more : Bool) (rows total : ℕ) → more ≡ false → Movable more rows total → rows ≤ total
-movable_fewer true rows total e h = absurd (true≢false e)
-movable_fewer false rows total e h = h
-
-pub moved_more : (more : Bool) (rows total : ℕ) → more ≡ true → total + rows ≡ moved more rows total
-moved_more true rows total e = refl
-moved_more false rows total e = absurd (false≢true e)
-
-pub moved_fewer : (more : Bool) (rows total : ℕ) → more ≡ false → total - rows ≡ moved more rows total
-moved_fewer true rows total e = absurd (true≢false e)
-moved_fewer false rows total e = refl
-
 -- a node with another total
 abbrev pub total_moved : Bool → ℕ → Node → Node
 total_moved more rows n = with_total (moved more rows n.total) n
@@ -235,3 +219,20 @@ module _ (more : Bool) (rows : ℕ) (m : Model) (w : WellFormed m.nodes) (node :
   pub above_end : (k : ℕ) → k ≤ 0 → Climbing more rows m node q k → q ≡ with_nodes m (moved_above more rows depth m.nodes node)
   above_end zero h C = climb_end more rows m w node q C
   above_end (suc k) h C = absurd (omega arith)
+
+-- what a move asks and gives, where it is known to be one of more rows or one of fewer
+pub movable_more : (more : Bool) (rows total : ℕ) → more ≡ true → Movable more rows total → total + rows < 2 ^ 64
+movable_more true rows total e h = h
+movable_more false rows total e h = absurd (false≢true e)
+
+pub movable_fewer : (more : Bool) (rows total : ℕ) → more ≡ false → Movable more rows total → rows ≤ total
+movable_fewer true rows total e h = absurd (true≢false e)
+movable_fewer false rows total e h = h
+
+pub moved_more : (more : Bool) (rows total : ℕ) → more ≡ true → total + rows ≡ moved more rows total
+moved_more true rows total e = refl
+moved_more false rows total e = absurd (false≢true e)
+
+pub moved_fewer : (more : Bool) (rows total : ℕ) → more ≡ false → total - rows ≡ moved more rows total
+moved_fewer true rows total e = absurd (true≢false e)
+moved_fewer false rows total e = refl

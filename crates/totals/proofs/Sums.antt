@@ -1,22 +1,24 @@
 -- Sums over the elements of a list that pass a test.
-use Prim.Native.Nat.{ℕ, zero, suc, ◌+◌, ◌≤◌, ◌<◌}
-use native.Mathlib.Numerals.{add-one}
+use Prim.Native.Nat.{ℕ, zero, suc, ◌+◌, ◌<◌}
 use native.Mathlib.Omega.{arith}
 use mathlib.Core.Path.{◌≡◌, refl}
 use mathlib.Core.Bool.{Bool, true, false, cond}
 use mathlib.Core.List.{List, [], ◌∷◌}
-use lib.ListN.{length, get_or, drop, drop_of_length-le}
-use lib.Seq.{drop-cons}
+use lib.ListN.{length, get_or}
+use Rattle.std.specs.List.{filter, sum_by}
+use Rattle.std.proofs.lemmas.List.Sums.{sum_by-cons}
 use Rattle.totals.specs.Totals.{sum_if}
 
 module _ {A : Type 0} (q : A → Bool) (f : A → ℕ) where
-  pub sum_next : (xs : List A) (k : ℕ) (d : A) → k < length xs → sum_if q f (drop k xs) ≡ cond (q (get_or xs k d)) (f (get_or xs k d)) 0 + sum_if q f (drop (k + 1) xs)
+  -- the library's words for it
+  pub sum_if-filter : (xs : List A) → sum_by f (filter q xs) ≡ sum_if q f xs
   unfolding sum_if
-  sum_next xs k d h = rw (add-one, drop-cons xs k d h)
-
-  pub sum_end : (xs : List A) (k : ℕ) → length xs ≤ k → sum_if q f (drop k xs) ≡ 0
-  unfolding sum_if
-  sum_end xs k h = rw (drop_of_length-le xs h)
+  sum_if-filter [] = refl
+  sum_if-filter (x ∷ xs) = go (q x) (sum_if-filter xs)
+    where
+      go : (b : Bool) → sum_by f (filter q xs) ≡ sum_if q f xs → sum_by f (cond b (x ∷ filter q xs) (filter q xs)) ≡ cond b (f x) 0 + sum_if q f xs
+      go true e = omega (arith, e, sum_by-cons f x (filter q xs))
+      go false e = omega (arith, e)
 
   pub sum_none : (xs : List A) (d : A) → ((i : ℕ) → i < length xs → q (get_or xs i d) ≡ false) → sum_if q f xs ≡ 0
   unfolding sum_if

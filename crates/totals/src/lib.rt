@@ -1,7 +1,10 @@
 // Totals of open nodes: the rows between two children, the row of a node, and totals kept up the chain.
+//
+// The public functions take any `Model`, with clauses for what holds of it: docs/PROMISES.md names them, and a type with
+// these invariants would ask more of a caller.
 #![tactic(auto)]
 
-ghost use Rattle.std.specs.Prelude.{◌<◌, ◌≤◌, ◌^◌, ◌≡◌, cond};
+ghost use Rattle.std.specs.Prelude.{◌<◌, ◌≤◌, ◌^◌, ◌≡◌};
 ghost use Rattle.model.specs.Places.{depth};
 ghost use Rattle.model.specs.Rows.{row_of};
 ghost use Rattle.tree.specs.WellFormed.{WellFormed, Used};
@@ -14,27 +17,7 @@ use model::{ChildIndex, Model, Node, RowNumber};
 fn opens_between(n: Node, parent: u64, start: u64, end: u64) -> bool
     ensures { result ≡ opens_between parent start end n }
 {
-    if !n.open {
-        return false;
-    }
-    if n.parent != parent {
-        return false;
-    }
-    if n.index < start {
-        return false;
-    }
-    n.index < end
-}
-
-// The rows below a node, if it is such a child.
-fn rows_below(n: Node, parent: u64, start: u64, end: u64) -> u64
-    ensures { result ≡ cond (opens_between parent start end n) n.total 0 }
-{
-    if opens_between(n, parent, start, end) {
-        n.total
-    } else {
-        0
-    }
+    n.open && n.parent == parent && start <= n.index && n.index < end
 }
 
 // The number of rows between two children of a node.
@@ -43,15 +26,12 @@ pub fn rows_between(m: Model, parent: u64, start: ChildIndex, end: ChildIndex) -
     requires end_bound { rows_between m.nodes parent start.0 end.0 < 2 ^ 64 }
     ensures { result ≡ rows_between m.nodes parent start.0 end.0 }
 {
-    let first = start.0;
-    let last = end.0;
-    let mut rows = last - first;
-    let mut k: usize = 1;
-    while k < 256 {
-        rows += rows_below(m.nodes[k], parent, first, last);
-        k += 1;
-    }
-    rows
+    let below: u64 = m.nodes[1..]
+        .iter()
+        .filter(|n| opens_between(**n, parent, start.0, end.0))
+        .map(|n| n.total)
+        .sum();
+    end.0 - start.0 + below
 }
 
 // A total with more rows, or with fewer.
@@ -62,7 +42,8 @@ fn moved_total(total: u64, expanded: bool, rows: u64) -> u64
     if expanded { total + rows } else { total - rows }
 }
 
-// Traverses back up the tree from a node, with more or fewer rows in the total of each node above it.
+// Traverses back up the tree from a node, with more or fewer rows in the total of each node above it. `expanded`
+// and `rows` stay two, as in the Rust and in `moved_above`: an enum of both would be taken apart at once.
 pub fn update_total(m: Model, node: u64, expanded: bool, rows: u64) -> Model
     requires well_formed { WellFormed m.nodes }
     requires used { Used m.nodes node }
@@ -73,8 +54,8 @@ pub fn update_total(m: Model, node: u64, expanded: bool, rows: u64) -> Model
     let mut k = node;
     while 0 < k {
         let above = q.nodes[k as usize].parent;
-        let total = q.nodes[above as usize].total;
-        q.nodes[above as usize].total = moved_total(total, expanded, rows);
+        let parent = &mut q.nodes[above as usize];
+        parent.total = moved_total(parent.total, expanded, rows);
         k = above;
     }
     q
@@ -93,7 +74,7 @@ pub fn row_of(m: Model, node: u64) -> RowNumber
     while 0 < k {
         let n = m.nodes[k as usize];
         let before = rows_between(m, n.parent, ChildIndex(0), ChildIndex(n.index));
-        rows = rows + before + 1;
+        rows += before + 1;
         k = n.parent;
     }
     RowNumber(rows - 1)

@@ -3,7 +3,6 @@ use Prim.Native.Nat.{ℕ, zero, suc, ◌+◌, ◌^◌, ◌≤◌, ◌<◌}
 use native.Mathlib.Omega.{arith}
 use native.Mathlib.Numerals.{add-one}
 use mathlib.Core.Path.{◌≡◌, refl, sym, ap, ◌∙◌, subst}
-use mathlib.Core.Logic.{◌≢◌}
 use mathlib.Core.Bool.{true, false}
 use mathlib.Core.List.{List, [], ◌∷◌, ◌++◌}
 use lib.ListN.{length, get_or, take}
@@ -12,17 +11,18 @@ use borrow.Author.Tests.{le-leb, lt-leb}
 use Rattle.model.specs.declared.Node.{Node}
 use Rattle.model.specs.declared.Model.{Model}
 use Rattle.model.specs.declared.ChildIndex.{ChildIndex}
-use Rattle.model.specs.declared.ChangeAnswer.{ChangeAnswer}
+use Rattle.model.specs.Answers.{ChangeAnswer, no_change}
 use Rattle.model.specs.declared.Log.{Log}
 use Rattle.model.specs.declared.Record.{Record}
 use Rattle.model.specs.declared.RowNumber.{RowNumber}
-use Rattle.model.specs.Places.{depth, log_places}
+use Rattle.std.specs.Prelude.{Some, None}
+use Rattle.model.specs.Places.{depth, log_places, unless_zero}
+use Rattle.model.proofs.UnlessZero.{some_is, none_is}
 use Rattle.model.specs.Nodes.{direct_of, is_open, open_child}
 use Rattle.model.specs.Rows.{row_total, row_at, place, row_of}
 use Rattle.model.specs.Settle.{settle}
 use Rattle.model.specs.Sound.{sound}
 use Rattle.model.specs.Logs.{State, state, rows_change, log_of}
-use Rattle.model.specs.Answers.{no_change}
 use Rattle.model.specs.Open.{changed}
 use Rattle.model.specs.Close.{closing_order, close_one, close_each, close_node, answer_close}
 use Rattle.model.proofs.Search.{child_found}
@@ -32,9 +32,7 @@ use Rattle.steps.specs.Settled.{Sound}
 use Rattle.steps.proofs.Closing.{close_well, close_row_total}
 use Rattle.steps.proofs.Quiet.{bare_rows}
 use Rattle.steps.proofs.Settling.{sound_of, settle_given, settle_bare, settle_sound, bare_closed}
-use Rattle.orders.specs.declared.Order.{Order}
-use Rattle.orders.specs.Orders.{Holds}
-use Rattle.orders.proofs.Answers.{step_at, closing_len, closing_small}
+use Rattle.orders.proofs.Answers.{closing_len, closing_small}
 use Rattle.edits.proofs.ChildRows.{next_row_fits}
 use Rattle.edits.specs.Closable.{Closable}
 use Rattle.edits.proofs.InnerFirst.{Ready, inner_first}
@@ -55,9 +53,9 @@ module _ (m : Model) (r : ℕ) where
   unfolding answer_close
   close_row e h = rw (e, lt-leb (row_total m.nodes) r h)
 
-pub close_none : (m : Model) (k : ℕ) → k ≡ 0 → close_node m k ≡ no_change 0 m
+pub close_none : (m : Model) (k : ℕ) → None ≡ unless_zero k → close_node m k ≡ no_change 0 m
 unfolding close_node
-close_none m k e = rw e
+close_none m k e = ap (close_node m) (none_is k e)
 
 close_some : (m : Model) (k : ℕ) → 0 < k → let z = close_each (state m.nodes []) (closing_order m.nodes depth k) in close_node m k ≡ changed (settle z.nodes) z.log
 unfolding close_node
@@ -65,13 +63,16 @@ close_some m zero h = absurd (omega arith)
 close_some m (suc k) h = refl
 
 -- the open node of the row that was found, as the calls' answers give it
-module _ (m : Model) (r p k : ℕ) (i : ChildIndex) (d : p ≡ (row_at m.nodes r).0) (e : i ≡ record { 0 = (row_at m.nodes r).1 }) (f : k ≡ open_child m.nodes p i.0) where
-  pub close_answer : sound m ≡ true → r < row_total m.nodes → (a : ChangeAnswer) → a ≡ close_node m k → a ≡ answer_close m r
-  close_answer s h a g = g ∙ ap (close_node m) (f ∙ (λ t. open_child m.nodes (d t) (e t).0)) ∙ sym (close_row m r s h)
+module _ (m : Model) (r p : ℕ) (i : ChildIndex) (d : p ≡ (row_at m.nodes r).0) (e : i ≡ record { 0 = (row_at m.nodes r).1 }) where
+  pub close_answer : sound m ≡ true → r < row_total m.nodes → close_node m (open_child m.nodes p i.0) ≡ answer_close m r
+  close_answer s h = ap (close_node m) (λ t. open_child m.nodes (d t) (e t).0) ∙ sym (close_row m r s h)
 
-pub open_child_opens : (m : Model) (p i k : ℕ) → k ≡ open_child m.nodes p i → k ≢ 0 → Opens m.nodes k
-open_child_opens m p i zero e n = absurd (n refl)
-open_child_opens m p i (suc k) e n = (child_found is_open m.nodes p i k (sym e)).0
+pub open_child_opens : (m : Model) (p i k : ℕ) → Some k ≡ unless_zero (open_child m.nodes p i) → (0 < k) × Opens m.nodes k
+open_child_opens m p i k g = by k (some_is (open_child m.nodes p i) k g)
+  where
+    by : (k : ℕ) → (k ≡ open_child m.nodes p i) × (k ≡ 0 → ⊥) → (0 < k) × Opens m.nodes k
+    by zero z = absurd (z.1 refl)
+    by (suc k) z = (omega arith, (child_found is_open m.nodes p i k (sym z.0)).0)
 
 -- the model after one node's closing
 closed_sound : (q : Model) → Sound q → (k : ℕ) → Closable q.nodes k → Sound (settle (closed_at q.nodes k))
@@ -145,27 +146,30 @@ module _ (ns : List Node) (ks : List ℕ) (i : ℕ) (q : Model) (log : Log) (C :
       }
 
 -- the loop over the steps that the order holds
-module _ (m : Model) (s : sound m ≡ true) (node : ℕ) (above : 0 < node) (opens : Opens m.nodes node) (r : Order) (h : Holds r (closing_order m.nodes depth node)) where
+module _ (m : Model) (s : sound m ≡ true) (node : ℕ) (above : 0 < node) (opens : Opens m.nodes node) (o : List ℕ) (h : o ≡ closing_order m.nodes depth node) where
   abbrev ks : List ℕ
   ks = closing_order m.nodes depth node
 
+  same_step : (i : ℕ) → get_or o i 0 ≡ get_or ks i 0
+  same_step i = ap (λ (l : List ℕ). get_or l i 0) h
+
   module _ (i : ℕ) (q : Model) (log : Log) (C : Closed m.nodes ks i q log) where
-    module _ (l : i < r.len) where
+    module _ (l : i < length o) where
       abbrev k : ℕ
-      k = get_or r.steps i 0
+      k = get_or o i 0
 
       ready : Ready m.nodes (take i ks) k
-      ready = rw (step_at r ks h i l) (inner_first m.nodes (sound_of m s).well node above opens i (omega (arith, h.count)))
+      ready = rw (same_step i) (inner_first m.nodes (sound_of m s).well node above opens i (omega (arith, ap length h)))
 
       pub turn_closable : Closable q.nodes k
       turn_closable = ready_closable m.nodes q.nodes (take i ks) (alike m.nodes ks i q log C) k ready
 
       pub turn_small : k < 256
-      turn_small = closing_small m.nodes (sound_of m s).well node above opens r h i l
+      turn_small = closing_small m.nodes (sound_of m s).well node above opens o h i l
 
       pub turn_asks : (x : RowNumber) → x ≡ record { 0 = row_of q.nodes k } → (log.len < 512) × (suc x.0 < 2 ^ 64)
       turn_asks x e = (
-        omega (arith, log_len m.nodes ks i q log C, closing_len m.nodes (sound_of m s).well node above opens r h),
+        omega (arith, log_len m.nodes ks i q log C, closing_len m.nodes (sound_of m s).well node above opens o h),
         omega (arith, ap (λ (y : RowNumber). y.0) e, next_row_fits q C.whole k turn_closable),
       )
 
@@ -176,14 +180,14 @@ module _ (m : Model) (s : sound m ≡ true) (node : ℕ) (above : 0 < node) (ope
           → log' ≡ logged log (rows_change (suc x.0) (direct_of m.nodes k) 0)
           → Closed m.nodes ks (i + 1) q' log'
       turn_closed x q' log' d e f =
-          let z = step_at r ks h i l in
+          let z = same_step i in
           let g = f ∙ (λ t. logged log (rows_change (suc (d t).0) (ready_direct m.nodes q.nodes (take i ks) (alike m.nodes ks i q log C) k ready t) 0)) in
           rw (add-one i)
-          (closed_again m.nodes ks i q log C (omega (arith, h.count)) (omega (arith, closing_len m.nodes (sound_of m s).well node above opens r h)) (rw z at turn_closable) q' log' (rw z at e) (rw z at g))
+          (closed_again m.nodes ks i q log C (omega (arith, ap length h)) (omega (arith, closing_len m.nodes (sound_of m s).well node above opens o h)) (rw z at turn_closable) q' log' (rw z at e) (rw z at g))
 
-    pub turns_done : r.len ≤ i → ◌≡◌ {A = ChangeAnswer} (record { refusal = 0; model = q; log = log }) (close_node m node)
+    pub turns_done : length o ≤ i → ◌≡◌ {A = ChangeAnswer} (record { refusal = 0; model = q; log = log }) (close_node m node)
     turns_done l =
-        let all = take_all i ks (omega (arith, h.count)) in
+        let all = take_all i ks (omega (arith, ap length h)) in
         (λ t. record { refusal = 0; model = C.model t; log = C.log t })
         ∙ ap (λ (x : List ℕ). let z = close_each (state m.nodes []) x in changed (settle z.nodes) z.log) all
         ∙ sym (close_some m node above)

@@ -8,21 +8,16 @@ use lib.Dec.{eqb, ltb}
 use lib.ListN.{length, get_or, set, replicate}
 use borrow.Author.Tests.{lt-ltb, le-ltb, ltb-true, eqb-true}
 use Rattle.model.specs.declared.Node.{Node}
-use Rattle.model.specs.declared.Region.{Region}
 use Rattle.model.specs.declared.Model.{Model}
 use Rattle.model.specs.Places.{pad}
 use Rattle.model.specs.Table.{readable, item_count, item_ongoing}
 use Rattle.model.specs.Nodes.{no_node}
 use Rattle.model.specs.Rows.{rows, rows_of, rows_from, total_of}
-use Rattle.model.specs.Regions.{no_region, runs}
+use Rattle.model.specs.Regions.{runs}
 use Rattle.model.specs.Settle.{totalled, settle}
 use Rattle.model.specs.Answers.{just_model}
 use Rattle.model.specs.New.{zeros, answer_new}
 use Rattle.lists.proofs.Bools.{both}
-
-pub zeros_filled : (n : Node) (g : Region) → n ≡ no_node → g ≡ no_region → ◌≡◌ {A = Model} (record { nodes = replicate 256 n; regions = replicate 512 g; region_count = 0; published = 0 }) zeros
-unfolding zeros
-zeros_filled n g d e = λ i. record { nodes = replicate 256 (d i); regions = replicate 512 (e i); region_count = 0; published = 0 }
 
 abbrev pub root : Bool → Node
 root b = record { parent = 0; index = 0; entry = 0; direct = 0; total = 0; version = 0; «open» = true; ongoing = b }
@@ -31,9 +26,10 @@ root b = record { parent = 0; index = 0; entry = 0; direct = 0; total = 0; versi
 abbrev pub rooted : Bool → Model
 rooted b = record { nodes = set zeros.nodes 0 (root b); regions = zeros.regions; region_count = 0; published = 0 }
 
-pub rooted_of : (m : Model) (b : Bool) → m ≡ zeros → ◌≡◌ {A = Model} (record { nodes = set m.nodes 0 (root b); regions = m.regions; region_count = m.region_count; published = m.published }) (rooted b)
+-- zeros whose node 0 is a node of zeros, but open, and ongoing or not
+pub rooted_by : (m : Model) (n : Node) (b : Bool) → m ≡ zeros → n ≡ no_node → ◌≡◌ {A = Model} (record { nodes = set m.nodes 0 (record { parent = n.parent; index = n.index; entry = n.entry; direct = n.direct; total = n.total; version = n.version; «open» = true; ongoing = b }); regions = m.regions; region_count = m.region_count; published = m.published }) (rooted b)
 unfolding zeros
-rooted_of m b e = λ i. record { nodes = set (e i).nodes 0 (root b); regions = (e i).regions; region_count = (e i).region_count; published = (e i).published }
+rooted_by m n b e f = λ i. record { nodes = set (e i).nodes 0 (record { parent = (f i).parent; index = (f i).index; entry = (f i).entry; direct = (f i).direct; total = (f i).total; version = (f i).version; «open» = true; ongoing = b }); regions = (e i).regions; region_count = (e i).region_count; published = (e i).published }
 
 settle_root : (b : Bool) → settle (root b ∷ replicate 255 no_node) ≡ rooted b
 unfolding settle totalled total_of rows rows_of rows_from runs pad zeros

@@ -10,16 +10,15 @@ use borrow.Author.Tests.{le-leb, lt-leb, ne_eqb, lt-ltb, le-ltb}
 use Rattle.model.specs.declared.Node.{Node}
 use Rattle.model.specs.declared.Model.{Model}
 use Rattle.model.specs.declared.ChildIndex.{ChildIndex}
-use Rattle.model.specs.declared.ChangeAnswer.{ChangeAnswer}
-use Rattle.model.specs.declared.RegionAt.TheVariants.{At}
-use Rattle.model.specs.Places.{row_limit}
+use Rattle.model.specs.Answers.{ChangeAnswer, no_change}
+use Rattle.std.specs.Prelude.{Some, None}
+use Rattle.model.specs.Places.{row_limit, unless_zero}
 use Rattle.model.specs.Table.{readable}
 use Rattle.model.specs.Nodes.{node_at, used, is_open, child, free, with_open}
 use Rattle.model.specs.Rows.{row_total, row_at}
 use Rattle.model.specs.Settle.{settle}
 use Rattle.model.specs.Sound.{sound}
 use Rattle.model.specs.Logs.{rows_change}
-use Rattle.model.specs.Answers.{no_change}
 use Rattle.model.specs.Fetch.{fresh, node_or_fresh}
 use Rattle.model.specs.Open.{changed, number_or_free, open_node, open_row, answer_open}
 use Rattle.runs.specs.Search.{region_at}
@@ -28,6 +27,7 @@ use Rattle.steps.specs.Changes.{Put}
 use Rattle.steps.proofs.Opening.{open_put}
 use Rattle.steps.proofs.Settling.{sound_of, sound_given}
 use Rattle.model.proofs.Search.{child_found}
+use Rattle.model.proofs.UnlessZero.{some_is, none_is}
 use Rattle.tree.proofs.Rows.{total_shut}
 use Rattle.edits.specs.Openable.{Openable}
 use Rattle.tree_list.specs.OpenedRow.{CanOpen}
@@ -63,13 +63,16 @@ module _ (m : Model) (r : ℕ) (n : Node) (j : ℕ) where
     open_childless z = rw (c, z)
 
     module _ (d : n.direct ≢ 0) where
-      pub open_full : (k : ℕ) → k ≡ j → k ≡ 0 → open_node m r n j ≡ no_change 6 m
+      pub open_full : None ≡ unless_zero j → open_node m r n j ≡ no_change 6 m
       unfolding open_node
-      open_full k e z = let f : j ≡ 0 = sym e ∙ z in rw (c, ne_eqb n.direct 0 d, f)
+      open_full e = rw (c, ne_eqb n.direct 0 d, none_is j e)
 
-      module _ (k : ℕ) (e : k ≡ j) (f : k ≢ 0) where
+      module _ (k : ℕ) (g : Some k ≡ unless_zero j) where
+        e : k ≡ j
+        e = (some_is j k g).0
+
         some : j ≢ 0
-        some z = f (e ∙ z)
+        some z = (some_is j k g).1 (e ∙ z)
 
         pub open_over : sound m ≡ true → row_limit - m.published < n.direct → open_node m r n j ≡ no_change 7 m
         unfolding open_node
@@ -95,11 +98,11 @@ module _ (m : Model) (r : ℕ) (n : Node) (j : ℕ) where
             → a ≡ changed q (rows_change (suc r) 0 n.direct ∷ [])
             → a ≡ open_node m r n j
         unfolding open_node
-        open_done a q s h g b =
+        open_done a q s h u b =
             rw (c, ne_eqb n.direct 0 d, ne_eqb j 0 some, le-ltb row_limit (row_total m.nodes + n.direct) (open_fits s h))
-            (b ∙ ap (λ (x : Model). changed x (rows_change (suc r) 0 n.direct ∷ [])) (g ∙ ap (λ (i : ℕ). settle (set m.nodes i (with_open true n))) e))
+            (b ∙ ap (λ (x : Model). changed x (rows_change (suc r) 0 n.direct ∷ [])) (u ∙ ap (λ (i : ℕ). settle (set m.nodes i (with_open true n))) e))
 
-module _ (t : List ℕ) (m : Model) (s : sound m ≡ true) (place r p i : ℕ) (e : row_at m.nodes r ≡ (p, i)) (h : region_at (live m) r ≡ At place) where
+module _ (t : List ℕ) (m : Model) (s : sound m ≡ true) (place r p i : ℕ) (e : row_at m.nodes r ≡ (p, i)) (h : region_at (live m) r ≡ Some place) where
   -- a closed row's total is its count
   total_direct : (k : ℕ) → child m.nodes p i ≡ k → let n = node_or_fresh t m.nodes (p, i) k in is_open n ≡ false → n.total ≡ n.direct
   unfolding fresh
@@ -124,27 +127,27 @@ module _ (t : List ℕ) (m : Model) (s : sound m ≡ true) (place r p i : ℕ) (
         room = l;
       }
 
--- and so, by the calls' answers: parent, index, number and node of the row
-module _ (t : List ℕ) (m : Model) (r p : ℕ) (i : ChildIndex) (k : ℕ) (n : Node) (d : p ≡ (row_at m.nodes r).0) (e : i ≡ record { 0 = (row_at m.nodes r).1 }) (f : k ≡ child m.nodes p i.0) (g : n ≡ node_or_fresh t m.nodes (p, i.0) k) where
-  pub open_answer : (a : ChangeAnswer) → a ≡ open_node m r n (number_or_free m.nodes k) → a ≡ open_row t m r (row_at m.nodes r)
-  open_answer a h =
-      h
-      ∙ ap (λ (x : Node). open_node m r x (number_or_free m.nodes k)) g
-      ∙ ap (λ (j : ℕ). open_node m r (node_or_fresh t m.nodes (p, i.0) j) (number_or_free m.nodes j)) f
-      ∙ (λ z. open_row t m r (d z, (e z).0))
+-- and so, by the calls' answers: parent, index and number of the row, and its node
+module _ (t : List ℕ) (m : Model) (r p : ℕ) (i : ChildIndex) (d : p ≡ (row_at m.nodes r).0) (e : i ≡ record { 0 = (row_at m.nodes r).1 }) where
+  abbrev number : ℕ
+  number = child m.nodes p i.0
 
-  pub can_open : sound m ≡ true → (place : ℕ) → region_at (live m) r ≡ At place → CanOpen m place r (number_or_free m.nodes k) n
-  can_open s place h =
-      let x : row_at m.nodes r ≡ (p, i.0) = λ z. (sym d z, (sym e z).0) in
-      subst (λ (y : Node). CanOpen m place r (number_or_free m.nodes k) y) (sym g)
-      (subst (λ (j : ℕ). CanOpen m place r (number_or_free m.nodes j) (node_or_fresh t m.nodes (p, i.0) j)) (sym f) (shown_opens t m s place r p i.0 x h))
+  module _ (n : Node) (g : n ≡ node_or_fresh t m.nodes (p, i.0) number) where
+    pub open_asked : open_node m r n (number_or_free m.nodes number) ≡ open_row t m r (row_at m.nodes r)
+    open_asked = ap (λ (x : Node). open_node m r x (number_or_free m.nodes number)) g ∙ (λ z. open_row t m r (d z, (e z).0))
 
+    pub can_open : sound m ≡ true → (place : ℕ) → region_at (live m) r ≡ Some place → CanOpen m place r (number_or_free m.nodes number) n
+    can_open s place h =
+        let x : row_at m.nodes r ≡ (p, i.0) = λ z. (sym d z, (sym e z).0) in
+        subst (λ (y : Node). CanOpen m place r (number_or_free m.nodes number) y) (sym g) (shown_opens t m s place r p i.0 x h)
+
+pub published_limit : (m : Model) → sound m ≡ true → m.published ≤ row_limit
+published_limit m s = let S = sound_of m s in omega (arith, (sound_given m S).published, S.limit)
+
+-- the number that a row's node has, or would get
 pub number_none : (m : Model) (k : ℕ) → k ≡ 0 → number_or_free m.nodes k ≡ free m.nodes
 number_none m k e = ap (number_or_free m.nodes) e
 
 pub number_some : (m : Model) (k : ℕ) → k ≢ 0 → number_or_free m.nodes k ≡ k
 number_some m zero d = absurd (d refl)
 number_some m (suc k) d = refl
-
-pub published_limit : (m : Model) → sound m ≡ true → m.published ≤ row_limit
-published_limit m s = let S = sound_of m s in omega (arith, (sound_given m S).published, S.limit)

@@ -1,6 +1,9 @@
 -- Release, by its refusals; a closed node freed in place.
 use Prim.Native.Nat.{ℕ, zero, suc, ◌≤◌, ◌<◌}
-use mathlib.Core.Path.{◌≡◌, refl, ap}
+use mathlib.Core.Path.{◌≡◌, refl, sym, ap, ◌∙◌}
+use Rattle.std.specs.Prelude.{Some, None}
+use Rattle.model.specs.Places.{unless_zero}
+use Rattle.model.proofs.UnlessZero.{some_is, none_is}
 use mathlib.Core.Bool.{true, false}
 use lib.ListN.{set}
 use borrow.Author.Tests.{le-leb, lt-leb}
@@ -29,18 +32,27 @@ module _ (m : Model) (r : ℕ) where
   release_row e h = rw (e, lt-leb (row_total m.nodes) r h)
 
 module _ (m : Model) where
-  pub release_none : (k : ℕ) → k ≡ 0 → release_node m k ≡ just_model 0 m
+  pub release_none : (k : ℕ) → None ≡ unless_zero k → release_node m k ≡ just_model 0 m
   unfolding release_node
-  release_none k e = rw e
+  release_none k e = ap (release_node m) (none_is k e)
 
-  pub release_open : (k : ℕ) → (k ≡ 0 → ⊥) → is_open (node_at m.nodes k) ≡ true → release_node m k ≡ just_model 9 m
-  unfolding release_node
-  release_open zero n o = absurd (n refl)
-  release_open (suc k) n o = rw o
+  -- of a row that has number j
+  module _ (k j : ℕ) (g : Some j ≡ unless_zero k) where
+    pub release_open : is_open (node_at m.nodes j) ≡ true → release_node m k ≡ just_model 9 m
+    unfolding release_node
+    release_open o = by j k (some_is k j g) o
+      where
+        by : (j k : ℕ) → (j ≡ k) × (j ≡ 0 → ⊥) → is_open (node_at m.nodes j) ≡ true → release_node m k ≡ just_model 9 m
+        by j zero e o = absurd (e.1 e.0)
+        by j (suc k) e o = let z : is_open (node_at m.nodes (suc k)) ≡ true = sym (ap (λ (x : ℕ). is_open (node_at m.nodes x)) e.0) ∙ o in rw z
 
-  pub release_freed : sound m ≡ true → (k : ℕ) → (k ≡ 0 → ⊥) → k < 256 → is_open (node_at m.nodes k) ≡ false → release_node m k ≡ just_model 0 (with_nodes m (set m.nodes k no_node))
-  unfolding release_node
-  release_freed e zero n h c = absurd (n refl)
-  release_freed e (suc k) n h c =
-      let S = sound_of m e in
-      rw c (ap (just_model 0) (quiet_in_place m S (set m.nodes (suc k) no_node) (quiet_freed m.nodes S.well k h c) (freed_totals m S k h)))
+    pub release_freed : sound m ≡ true → j < 256 → is_open (node_at m.nodes j) ≡ false → release_node m k ≡ just_model 0 (with_nodes m (set m.nodes j no_node))
+    unfolding release_node
+    release_freed s h c = by j k (some_is k j g) h c
+      where
+        by : (j k : ℕ) → (j ≡ k) × (j ≡ 0 → ⊥) → j < 256 → is_open (node_at m.nodes j) ≡ false → release_node m k ≡ just_model 0 (with_nodes m (set m.nodes j no_node))
+        by zero k e h c = absurd (e.1 refl)
+        by (suc j) k e h c =
+            let S = sound_of m s in
+            ap (release_node m) (sym e.0)
+            ∙ rw c (ap (just_model 0) (quiet_in_place m S (set m.nodes (suc j) no_node) (quiet_freed m.nodes S.well j h c) (freed_totals m S j h)))

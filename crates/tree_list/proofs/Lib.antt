@@ -4,6 +4,7 @@ pub mod Entries
 pub mod StepsInPlace
 pub mod StepsInOrder
 pub mod SoundRows
+pub mod Checked
 pub mod AnswerNew
 pub mod AnswerCount
 pub mod AnswerRelease

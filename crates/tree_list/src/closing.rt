@@ -1,15 +1,15 @@
 // Close: the rows below a row go, with what is open there first. A closed row is done with no change.
-ghost use Rattle.std.specs.Prelude.{◌≡◌, true, suc, ◌^◌, ◌<◌};
+ghost use Rattle.std.specs.Prelude.{◌≡◌, suc, ◌^◌, ◌<◌, Ok};
+ghost use Rattle.model.specs.Answers.{change_answer};
 ghost use Rattle.model.specs.Logs.{rows_change};
 ghost use Rattle.model.specs.Close.{close_node, answer_close};
-ghost use Rattle.model.specs.Sound.{sound};
 ghost use Rattle.tree.specs.WellFormed.{Opens};
 ghost use Rattle.tree_list.specs.Logging.{logged};
 
-use crate::answers::no_change;
-use crate::logs::{log_also, no_log};
-use crate::rows::{index_of, parent_of};
-use model::{ChangeAnswer, Log, Model, Record, RegionAt, RowNumber};
+use crate::checks::{SoundModel, check_model, refused};
+use crate::logs::{log_also, no_log, unchanged};
+use crate::rows::row_at;
+use model::{Changed, Kind, Log, Model, Record, Refusal, Refused, RowNumber};
 
 // One record more: so many rows go from below a row.
 fn log_closing(log: Log, row: RowNumber, count: u64) -> Log
@@ -18,7 +18,7 @@ fn log_closing(log: Log, row: RowNumber, count: u64) -> Log
     ensures { result ≡ logged log (rows_change (suc row.0) count 0) }
 {
     let change = Record {
-        kind: 1,
+        kind: Kind::Rows,
         position: row.0 + 1,
         removed: count,
         added: 0,
@@ -27,46 +27,33 @@ fn log_closing(log: Log, row: RowNumber, count: u64) -> Log
 }
 
 // An open node is closed, after those that are open below it.
-fn close_all(m: Model, node: u64) -> ChangeAnswer
-    requires m_value { sound m ≡ true }
+fn close_all(m: SoundModel, node: u64) -> Changed
     requires node_nonzero { 0 < node }
-    requires opens { Opens m.nodes node }
-    ensures { result ≡ close_node m node }
+    requires opens { Opens m.model.nodes node }
+    ensures { change_answer (Ok result) ≡ close_node m.model node }
 {
-    let order = orders::closing_order(m, node as usize);
-    let count = order.len as usize;
-    let mut q = m;
+    let order = orders::closing_order(m.model, node as usize);
+    let mut q = m.model;
     let mut log = no_log();
-    let mut i: usize = 0;
-    while i < count {
-        let k = order.steps[i];
+    for &k in order.as_slice() {
         // earlier closings may have moved its row; its count is as it was
         let row = totals::row_of(q, k);
-        log = log_closing(log, row, m.nodes[k as usize].direct);
+        log = log_closing(log, row, m.model.nodes[k as usize].direct);
         q = edits::close_node(q, k);
-        i += 1;
     }
-    ChangeAnswer {
-        refusal: 0,
-        model: q,
-        log,
-    }
+    Changed { model: q, log }
 }
 
-pub fn close(m: Model, row: RowNumber) -> ChangeAnswer
-    ensures { result ≡ answer_close m row.0 }
+pub fn close(m: Model, row: RowNumber) -> Result<Changed, Refused>
+    ensures { change_answer result ≡ answer_close m row.0 }
 {
-    if !sound::is_sound(m) {
-        return no_change(1, m);
-    }
-    let RegionAt::At(place) = regions::find_region(m, row) else {
-        return no_change(4, m);
+    let checked = check_model(m)?;
+    let Some(place) = regions::find_region(m, row) else {
+        return Err(refused(Refusal::PastRows, m));
     };
-    let parent = parent_of(m, place, row);
-    let index = index_of(m, place, row);
-    let node = nodes::open_child_of(m, parent, index);
-    if node == 0 {
-        return no_change(0, m);
-    }
-    close_all(m, node)
+    let (parent, index) = row_at(checked, place, row);
+    let Some(node) = nodes::open_child_of(m, parent, index) else {
+        return Ok(unchanged(m));
+    };
+    Ok(close_all(checked, node))
 }

@@ -1,9 +1,9 @@
 // The tree list model's operations. Each is public, asks nothing of its caller, and answers by one
-// definition of model's specs/; what it cannot serve it refuses with document 01's number.
+// definition of model's specs/; what it cannot serve it refuses with the `Refusal` of document 01's number.
 #![tactic(auto)]
 
-mod answers;
 mod blank;
+mod checks;
 mod closing;
 mod counting;
 mod fetching;

@@ -1,28 +1,24 @@
 // Logs: of no change, of one, and of one more.
-ghost use Rattle.std.specs.Prelude.{◌≡◌, [], ◌∷◌, ◌<◌};
-ghost use Rattle.model.specs.Logs.{no_record, log_of};
+ghost use Rattle.std.specs.Prelude.{◌≡◌, [], ◌∷◌, ◌<◌, Ok};
+ghost use Rattle.model.specs.Answers.{no_change, change_answer};
+ghost use Rattle.model.specs.Logs.{log_of};
 ghost use Rattle.tree_list.specs.Logging.{logged};
 
-use model::{Log, Record};
-
-fn no_record() -> Record
-    ensures { result ≡ no_record }
-{
-    Record {
-        kind: 0,
-        position: 0,
-        removed: 0,
-        added: 0,
-    }
-}
+use model::{Changed, Log, Model, Record};
 
 pub fn no_log() -> Log
     ensures { result ≡ log_of [] }
 {
-    let none = no_record();
-    Log {
-        records: [none; 512],
-        len: 0,
+    Log::default()
+}
+
+// What a call answers that is done with no change.
+pub fn unchanged(m: Model) -> Changed
+    ensures { change_answer (Ok result) ≡ no_change 0 m }
+{
+    Changed {
+        model: m,
+        log: no_log(),
     }
 }
 
@@ -35,14 +31,13 @@ pub fn log_of_one(change: Record) -> Log
     log
 }
 
-// One record more.
+// One record more, for which there is room: a full log is a log too, so it is asked here and no invariant.
 pub fn log_also(log: Log, change: Record) -> Log
     requires { log.len < 512 }
     ensures { result ≡ logged log change }
 {
     let mut q = log;
-    let at = q.len;
-    q.records[at as usize] = change;
-    q.len = at + 1;
+    q.records[q.len as usize] = change;
+    q.len += 1;
     q
 }

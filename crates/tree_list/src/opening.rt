@@ -1,86 +1,76 @@
 // Open: a row's children become rows below it. An open row is done with no change.
-ghost use Rattle.std.specs.Prelude.{◌≡◌, true, [], ◌∷◌, suc, ◌<◌, ◌^◌};
+ghost use Rattle.std.specs.Prelude.{◌≡◌, ℕ, [], ◌∷◌, suc, ◌<◌, ◌^◌, Ok};
+ghost use Rattle.model.specs.Places.{unless_zero};
+ghost use Rattle.model.specs.Answers.{change_answer};
 ghost use Rattle.model.specs.Logs.{rows_change};
 ghost use Rattle.model.specs.Open.{changed, number_or_free, open_node, answer_open};
-ghost use Rattle.model.specs.Sound.{sound};
 ghost use Rattle.tree_list.specs.OpenedRow.{CanOpen};
 
-use crate::answers::no_change;
+use crate::checks::{SoundModel, check_model, check_table, refused};
 use crate::fetching::node_or_fresh;
-use crate::logs::log_of_one;
-use crate::rows::{index_of, parent_of};
-use model::{ChangeAnswer, Model, Node, Record, RegionAt, RowNumber};
+use crate::logs::{log_of_one, unchanged};
+use crate::rows::row_at;
+use model::{Changed, Kind, Model, Node, ROW_LIMIT, Record, Refusal, Refused, RowNumber};
 
-// The number that a row's node has, or would get (0: none is free).
-fn number_or_free(m: Model, node: u64) -> u64
-    ensures { result ≡ number_or_free m.nodes node }
+// The number that a row's node has, or would get, if one is free.
+fn number_or_free(m: Model, node: Option<u64>) -> Option<u64>
+    ensures { (k : ℕ) → node ≡ unless_zero k → result ≡ unless_zero (number_or_free m.nodes k) }
 {
-    if node == 0 {
-        return nodes::free_place(m);
-    }
-    node
+    node.or_else(|| nodes::free_place(m))
 }
 
 // The model with so many rows more below a row, and the log that says so.
-fn grown_below(m: Model, row: RowNumber, count: u64) -> ChangeAnswer
+fn grown_below(m: Model, row: RowNumber, count: u64) -> Changed
     requires { suc row.0 < 2 ^ 64 }
-    ensures { result ≡ changed m (rows_change (suc row.0) 0 count ∷ []) }
+    ensures { change_answer (Ok result) ≡ changed m (rows_change (suc row.0) 0 count ∷ []) }
 {
     let log = log_of_one(Record {
-        kind: 1,
+        kind: Kind::Rows,
         position: row.0 + 1,
         removed: 0,
         added: count,
     });
-    ChangeAnswer {
-        refusal: 0,
-        model: m,
-        log,
-    }
+    Changed { model: m, log }
 }
 
-// A row with node n, which has the number `node`, or would get one if that is 0.
-fn open_row(m: Model, place: usize, row: RowNumber, node: u64, n: Node) -> ChangeAnswer
-    requires m_value { sound m ≡ true }
-    requires can_open { CanOpen m place row.0 (number_or_free m.nodes node) n }
-    ensures { result ≡ open_node m row.0 n (number_or_free m.nodes node) }
+// A row with node n, which has a number, or would get one.
+fn open_row(
+    m: SoundModel,
+    place: usize,
+    row: RowNumber,
+    node: Option<u64>,
+    n: Node,
+) -> Result<Changed, Refused>
+    requires { (k : ℕ) × (node ≡ unless_zero k) × CanOpen m.model place row.0 (number_or_free m.model.nodes k) n }
+    ensures { (k : ℕ) → node ≡ unless_zero k → change_answer result ≡ open_node m.model row.0 n (number_or_free m.model.nodes k) }
 {
+    let m = m.model;
     if n.open {
-        return no_change(0, m);
+        return Ok(unchanged(m));
     }
     if n.direct == 0 {
-        return no_change(5, m);
+        return Err(refused(Refusal::NothingBelow, m));
     }
-    let number = number_or_free(m, node);
-    if number == 0 {
-        return no_change(6, m);
+    let Some(number) = number_or_free(m, node) else {
+        return Err(refused(Refusal::NodesFull, m));
+    };
+    if ROW_LIMIT - m.published < n.direct {
+        return Err(refused(Refusal::TooManyRows, m));
     }
-    if 4294967295 - m.published < n.direct {
-        return no_change(7, m);
-    }
-    grown_below(edits::open_node(m, place, row, number, n), row, n.direct)
+    let opened = edits::open_node(m, place, row, number, n);
+    Ok(grown_below(opened, row, n.direct))
 }
 
-pub fn open(table: &[u64], m: Model, row: RowNumber) -> ChangeAnswer
-    ensures { result ≡ answer_open table.now m row.0 }
+pub fn open(table: &[u64], m: Model, row: RowNumber) -> Result<Changed, Refused>
+    ensures { change_answer result ≡ answer_open table.now m row.0 }
 {
-    if !sound::is_sound(m) {
-        return no_change(1, m);
-    }
-    if !table::is_readable(table) {
-        return no_change(2, m);
-    }
-    let RegionAt::At(place) = regions::find_region(m, row) else {
-        return no_change(4, m);
+    let checked = check_model(m)?;
+    check_table(table, m)?;
+    let Some(place) = regions::find_region(m, row) else {
+        return Err(refused(Refusal::PastRows, m));
     };
-    let parent = parent_of(m, place, row);
-    let index = index_of(m, place, row);
+    let (parent, index) = row_at(checked, place, row);
     let node = nodes::child_of(m, parent, index);
-    open_row(
-        m,
-        place,
-        row,
-        node,
-        node_or_fresh(table, m, parent, index, node),
-    )
+    let n = node_or_fresh(table, m, parent, index, node);
+    open_row(checked, place, row, node, n)
 }

@@ -1,40 +1,36 @@
 // Release: a closed row is followed no longer.
-ghost use Rattle.std.specs.Prelude.{◌≡◌, true, ◌<◌};
-ghost use Rattle.model.specs.Sound.{sound};
+ghost use Rattle.std.specs.Prelude.{◌≡◌, ℕ, ◌<◌, Some};
+ghost use Rattle.model.specs.Places.{unless_zero};
+ghost use Rattle.model.specs.Answers.{model_answer};
 ghost use Rattle.model.specs.Release.{release_node, answer_release};
 
-use crate::answers::just_model;
-use crate::rows::{index_of, parent_of};
-use model::{Model, ModelAnswer, RegionAt, RowNumber};
-use nodes::no_node;
+use crate::checks::{SoundModel, check_model, refused};
+use crate::rows::row_at;
+use model::{Model, Node, Refusal, Refused, RowNumber};
 
-// A row's node is freed, unless it is open; node 0 says that the row has none.
-fn release_node(m: Model, node: u64) -> ModelAnswer
-    requires m_value { sound m ≡ true }
-    requires node_bound { node < 256 }
-    ensures { result ≡ release_node m node }
+// A row's node, if it has one, is freed, unless it is open.
+fn release_node(m: SoundModel, node: Option<u64>) -> Result<Model, Refused>
+    requires { (k : ℕ) → node ≡ Some k → k < 256 }
+    ensures { (k : ℕ) → node ≡ unless_zero k → model_answer result ≡ release_node m.model k }
 {
-    if node == 0 {
-        return just_model(0, m);
+    let mut q = m.model;
+    let Some(k) = node else {
+        return Ok(q);
+    };
+    if q.nodes[k as usize].open {
+        return Err(refused(Refusal::RowOpen, q));
     }
-    if m.nodes[node as usize].open {
-        return just_model(9, m);
-    }
-    let mut q = m;
-    q.nodes[node as usize] = no_node();
-    just_model(0, q)
+    q.nodes[k as usize] = Node::default();
+    Ok(q)
 }
 
-pub fn release(m: Model, row: RowNumber) -> ModelAnswer
-    ensures { result ≡ answer_release m row.0 }
+pub fn release(m: Model, row: RowNumber) -> Result<Model, Refused>
+    ensures { model_answer result ≡ answer_release m row.0 }
 {
-    if !sound::is_sound(m) {
-        return just_model(1, m);
-    }
-    let RegionAt::At(place) = regions::find_region(m, row) else {
-        return just_model(4, m);
+    let checked = check_model(m)?;
+    let Some(place) = regions::find_region(m, row) else {
+        return Err(refused(Refusal::PastRows, m));
     };
-    let parent = parent_of(m, place, row);
-    let index = index_of(m, place, row);
-    release_node(m, nodes::child_of(m, parent, index))
+    let (parent, index) = row_at(checked, place, row);
+    release_node(checked, nodes::child_of(m, parent, index))
 }

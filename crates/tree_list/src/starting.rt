@@ -1,10 +1,11 @@
 // New: an empty capture, of which nothing is known but whether it is ongoing.
 ghost use Rattle.std.specs.Prelude.{◌≡◌, set, true};
+ghost use Rattle.model.specs.Answers.{model_answer};
 ghost use Rattle.model.specs.New.{zeros as zero_model, answer_new};
 
-use crate::answers::just_model;
 use crate::blank::zeros;
-use model::{Model, ModelAnswer, Node};
+use crate::checks::{check_table, refused};
+use model::{Model, Node, Refusal, Refused};
 
 // The model of a capture without children.
 fn empty_capture(ongoing: bool) -> Model
@@ -12,27 +13,20 @@ fn empty_capture(ongoing: bool) -> Model
 {
     let mut m = zeros();
     m.nodes[0] = Node {
-        parent: 0,
-        index: 0,
-        entry: 0,
-        direct: 0,
-        total: 0,
-        version: 0,
         open: true,
         ongoing,
+        ..Node::default()
     };
     m
 }
 
 #[tactic(auto, using(crate::proofs::AnswerNew::new_unreadable, crate::proofs::AnswerNew::new_filled, crate::proofs::AnswerNew::new_done, crate::proofs::AnswerNew::readable_five))]
-pub fn new(table: &[u64]) -> ModelAnswer
-    ensures { result ≡ answer_new table.now }
+pub fn new(table: &[u64]) -> Result<Model, Refused>
+    ensures { model_answer result ≡ answer_new table.now }
 {
-    if !table::is_readable(table) {
-        return just_model(2, zeros());
-    }
+    check_table(table, zeros())?;
     if 0 < table[2] {
-        return just_model(3, zeros());
+        return Err(refused(Refusal::FilledCapture, zeros()));
     }
-    just_model(0, empty_capture(table[3] == 0))
+    Ok(empty_capture(table[3] == 0))
 }

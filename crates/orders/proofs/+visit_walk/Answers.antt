@@ -1,66 +1,60 @@
-use Rattle.std.proofs.Common.{◌+◌, ◌-◌, ◌*◌, ◌∷◌, arith, rules}
+use Rattle.std.proofs.Common.{arith, rules, append-nil, append_assoc, length, length-append, ap}
 use Rattle.model.specs.Nodes.{is_ongoing}
-use Rattle.orders.specs.Columns.{column_nodes}
-use Rattle.orders.specs.Orders.{visit_codes, walk_codes}
-use Rattle.orders.proofs.Columns.{all_ongoing}
-use Rattle.orders.proofs.Codes.{visit_none}
-use Rattle.orders.proofs.Writing.{along_begins, along_room, along_next, along_ends, along_small, written_none, written_first, written_last, visit_step_lem, visit_room}
+use Rattle.model.specs.Update.{visit}
+use Rattle.orders.proofs.Along.{along_begins, along_room, along_next, along_ends, visit_none, visit_some, followed_none, followed_some}
 use Rattle.orders.proofs.+visit_walk.Goals as goal
 
 pub visit-returns-then-allowance-eq0 : goal.visit-returns-then-allowance-eq0
 visit-returns-then-allowance-eq0 t c =
     let x = c.args in
-    written_none _ x.out.now x.at (visit_none (column_nodes x.parents.now x.indices.now x.counts.now) x.node x.allowance c.if-allowance-eq0.true)
+    rw (visit_none x.nodes.now x.node x.allowance c.if-allowance-eq0.true, append-nil)
 
 -- there are places for the text, the walk and the growth
-pub visit-bounds-out-at : goal.visit-bounds-out-at
-visit-bounds-out-at t c =
+pub visit-push-requires : goal.visit-push-requires
+visit-push-requires t c =
     let x = c.args in
-    omega (arith, visit_room x.parents.now x.indices.now x.counts.now x.node c.requires.0 x.allowance x.at c.if-allowance-eq0.false c.requires.1)
+    let e = visit_some x.nodes.now x.node x.allowance c.if-allowance-eq0.false in
+    (omega arith, omega (arith, simp length-append at (ap length e), c.requires.1))
 
-pub visit-walk-a-requires : goal.visit-walk-a-requires
-visit-walk-a-requires t c =
+pub visit-walk-requires : goal.visit-walk-requires
+visit-walk-requires t c =
     let x = c.args in
-    let room = visit_room x.parents.now x.indices.now x.counts.now x.node c.requires.0 x.allowance x.at c.if-allowance-eq0.false c.requires.1 in
-    (search rules, (c.requires.0, omega (arith, room)))
+    let e = visit_some x.nodes.now x.node x.allowance c.if-allowance-eq0.false in
+    (search rules, (c.requires.0, omega (arith, simp length-append at (ap length e), simp length-append at (ap length c.push.ensures.items), c.requires.1)))
 
-pub visit-bounds-out-a : goal.visit-bounds-out-a
-visit-bounds-out-a t c =
+pub visit-push-requires-2 : goal.visit-push-requires-2
+visit-push-requires-2 t c =
     let x = c.args in
-    omega (arith, visit_room x.parents.now x.indices.now x.counts.now x.node c.requires.0 x.allowance x.at c.if-allowance-eq0.false c.requires.1, c.walk-a.ensures.next)
-
-pub visit-offset_bounds-out-a : goal.visit-offset_bounds-out-a
-visit-offset_bounds-out-a t c =
-    let x = c.args in
-    omega (arith, visit_room x.parents.now x.indices.now x.counts.now x.node c.requires.0 x.allowance x.at c.if-allowance-eq0.false c.requires.1, c.walk-a.ensures.next)
-
-pub visit-overflow_add-result : goal.visit-overflow_add-result
-visit-overflow_add-result t c = omega (arith, visit-bounds-out-a t c)
+    let e = visit_some x.nodes.now x.node x.allowance c.if-allowance-eq0.false in
+    (omega arith, omega (arith, simp length-append at (ap length e), simp length-append at (ap length c.push.ensures.items), simp length-append at (ap length c.walk.ensures), c.requires.1))
 
 pub visit-returns : goal.visit-returns
 visit-returns t c =
     let x = c.args in
-    let walked = walk_codes (column_nodes x.parents.now x.indices.now x.counts.now) (x.allowance - 1) x.node in
-    written_last (2 * x.node ∷ walked) x.out.now _ x.at c.walk-a.result (2 * x.node + 1) _
-    (visit_step_lem x.parents.now x.indices.now x.counts.now x.node c.requires.0 x.allowance c.if-allowance-eq0.false)
-    (written_first walked x.out.now _ x.at c.walk-a.result (2 * x.node) c.walk-a.ensures)
+    rw (c.push-2.ensures.items, c.walk.ensures, c.push.ensures.items, visit_some x.nodes.now x.node x.allowance c.if-allowance-eq0.false) (simp append_assoc)
+
+pub walk-returns-then-not-nodes-node : goal.walk-returns-then-not-nodes-node
+walk-returns-then-not-nodes-node t c =
+    let x = c.args in
+    rw (followed_none x.nodes.now x.node x.allowance c.if-not-nodes-node.true, append-nil)
 
 pub walk-loop-followed-init : goal.walk-loop-followed-init
 walk-loop-followed-init t c =
     let x = c.args in
-    along_begins (visit_codes (column_nodes x.parents.now x.indices.now x.counts.now) x.allowance) is_ongoing x.parents.now x.indices.now x.counts.now x.node c.count_at-limit.result x.out.now x.at
-    c.next_child-followed.result c.requires.0 c.count_at-limit.ensures c.next_child-followed.ensures
+    along_begins (visit x.nodes.now x.allowance) is_ongoing x.nodes.now x.node x.out.now.items
 
-pub walk-visit-a-requires : goal.walk-visit-a-requires
-unfolding walk_codes
-walk-visit-a-requires t c =
-    let l = c.loop-followed in
-    (search rules, (along_small all_ongoing l.invariant, along_room all_ongoing l.invariant (omega (arith, c.loop-followed-test.true)) c.requires.1))
+pub walk-visit-requires : goal.walk-visit-requires
+walk-visit-requires t c =
+    let x = c.args in
+    let f = c.in-Some.ensures is_ongoing (λ n b k. search rules) in
+    let e = followed_some x.nodes.now x.node x.allowance c.if-not-nodes-node.false in
+    (search rules, (f.small, omega (arith, along_room c.loop-followed.invariant _ f, ap length e, c.requires.1)))
 
 pub walk-loop-followed-preserved : goal.walk-loop-followed-preserved
-walk-loop-followed-preserved t c =
-    along_next all_ongoing c.loop-followed.invariant (omega (arith, c.loop-followed-test.true)) _ _ c.next_child-followed-in-loop-followed.result c.visit-a.ensures c.next_child-followed-in-loop-followed.ensures
+walk-loop-followed-preserved t c = along_next c.loop-followed.invariant _ (c.in-Some.ensures is_ongoing (λ n b k. search rules)) _ c.visit.ensures
 
 pub walk-returns : goal.walk-returns
-unfolding walk_codes
-walk-returns t c = along_ends all_ongoing c.loop-followed.invariant (omega (arith, c.loop-followed-test.false))
+walk-returns t c =
+    let x = c.args in
+    rw (followed_some x.nodes.now x.node x.allowance c.if-not-nodes-node.false)
+    (along_ends c.loop-followed.invariant (c.in_default.ensures is_ongoing (λ n b k. search rules)))

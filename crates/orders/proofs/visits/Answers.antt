@@ -1,9 +1,6 @@
-use Rattle.std.proofs.Common.{arith}
-use Rattle.orders.proofs.Answers.{visits_fits, visits_holds}
+use Rattle.std.proofs.Common.{arith, length, ap}
+use Rattle.orders.proofs.Orders.{visits_short}
 use Rattle.orders.proofs.visits.Goals as goal
 
-pub visit-n-requires : goal.visit-n-requires
-visit-n-requires c = (omega arith, visits_fits c.args.m.nodes c.requires _ _ _ c.fill_columns.ensures)
-
-pub returns : goal.returns
-returns c = visits_holds c.args.m.nodes c.requires _ _ _ c.fill_columns.ensures _ c.visit-n.result c.visit-n.ensures
+pub visit-requires : goal.visit-requires
+visit-requires c = (omega arith, omega (arith, ap length c.new-steps.ensures, visits_short c.args.m.nodes c.requires))

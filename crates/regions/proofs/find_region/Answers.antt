@@ -1,73 +1,60 @@
-use Rattle.std.proofs.Common.{◌≡◌, ℕ, suc, ap, ◌+◌, ◌<◌, ◌≤◌, ◌-◌, ◌/◌, length, take, List, arith}
-use Rattle.model.specs.declared.Model.{Model}
+use Rattle.std.proofs.Common.{◌≡◌, ◌-◌, ◌∙◌, arith, rules, leb}
+use Rattle.std.proofs.lemmas.List.Sorted.{IsPartitionPoint-from_clause}
 use Rattle.model.specs.declared.Region.{Region}
 use Rattle.model.proofs.Arrays.{regions_long}
-use Rattle.runs.specs.Regions.{at}
+use Rattle.runs.specs.Search.{Last}
 use Rattle.runs.specs.Laid.{live}
-use Rattle.runs.proofs.Laid.{live_count, count_few, live_at}
-use Rattle.runs.specs.Search.{Last, region_from, region_at}
-use Rattle.runs.proofs.Search.{first_start, last_hit, last_none}
-use Rattle.model.specs.declared.RegionAt.TheVariants.{None}
+use Rattle.runs.proofs.Laid.{live_count, live_at}
+use Rattle.runs.proofs.Search.{starts_parted, cut_last, cut_none, last_hit, last_none}
 use Rattle.regions.proofs.find_region.Goals as goal
 
--- where there is no region
-empty : (n r : ℕ) (l : List Region) → n ≡ 0 → None ≡ region_at (take n l) r
-unfolding region_at region_from
-empty n r l e = rw e
+pub returns-in_err-place : goal.returns-in_err-place
+returns-in_err-place c =
+    let gs = live c.args.m in
+    let r = c.args.row.0 in
+    let t = c.requires.tiled in
+    let cut = IsPartitionPoint-from_clause (λ (g : Region). leb g.start r) _ _ c.partition_point-after.ensures.partitioned (starts_parted gs t r) (λ a r q k. search rules) in
+    let z : c.partition_point-after.result ≡ 0 = omega (arith, c.in_err-place.ensures) in
+    c.from_residual.ensures ∙ cut_none gs t r (rw z at cut)
 
--- where the loop ends
-ended : (m : Model) (r i k : ℕ) → length (live m) ≡ m.region_count → i < k → k ≤ m.region_count → (at (live m) i).start ≤ r → (k < m.region_count → r < (at (live m) k).start) → k - i ≤ 1 → Last (live m) r i
-ended m r i k count lt le low high end =
-    let e : k ≡ suc i = omega arith in
-    record { below = omega arith; low = low; next = λ h. rw e at (high (omega arith)) }
-
-pub returns-then-count-eq0 : goal.returns-then-count-eq0
-returns-then-count-eq0 c = empty c.args.m.region_count c.args.row.0 c.args.m.regions c.if-count-eq0.true
-
-pub loop-high-init : goal.loop-high-init
-loop-high-init c =
+pub overflow_sub-row : goal.overflow_sub-row
+overflow_sub-row c =
     let m = c.args.m in
+    let gs = live m in
+    let r = c.args.row.0 in
+    let t = c.requires.tiled in
     let long = regions_long m _ c.well_formed.0 in
     let count = live_count m long c.requires.laid in
-    (omega arith, omega arith, count_few m long c.requires.laid, omega (arith, first_start 0 (live m) c.requires.tiled (omega (arith, c.if-count-eq0.false))), λ h. absurd (omega arith))
+    let cut = IsPartitionPoint-from_clause (λ (g : Region). leb g.start r) _ _ c.partition_point-after.ensures.partitioned (starts_parted gs t r) (λ a r q k. search rules) in
+    let e : c.in_ok-place.place ≡ c.partition_point-after.result - 1 = omega (arith, c.in_ok-place.ensures) in
+    let last = cut_last gs t r c.partition_point-after.result cut (omega (arith, c.in_ok-place.ensures)) c.partition_point-after.ensures.bound in
+    let known = live_at m long c.requires.laid c.in_ok-place.place (omega (arith, c.in_ok-place.ensures, last.below)) in
+    rw (← known, e) last.low
 
-pub loop-high-preserved-then-start-r : goal.loop-high-preserved-then-start-r
-loop-high-preserved-then-start-r c =
+pub returns-then-row-g : goal.returns-then-row-g
+returns-then-row-g c =
     let m = c.args.m in
-    let l = c.loop-high in
+    let gs = live m in
+    let r = c.args.row.0 in
+    let t = c.requires.tiled in
     let long = regions_long m _ c.well_formed.0 in
-    let known = live_at m long c.requires.laid (l.low + (l.high - l.low) / 2) (omega arith) in
-    (omega arith, omega arith, l.invariant.2, omega (arith, ap (λ (g : Region). g.start) known), l.invariant.4)
-
-pub loop-high-preserved : goal.loop-high-preserved
-loop-high-preserved c =
-    let m = c.args.m in
-    let l = c.loop-high in
-    let long = regions_long m _ c.well_formed.0 in
-    let known = live_at m long c.requires.laid (l.low + (l.high - l.low) / 2) (omega arith) in
-    (omega arith, omega arith, l.invariant.2, l.invariant.3, λ h. omega (arith, ap (λ (g : Region). g.start) known))
-
-pub overflow_sub-r : goal.overflow_sub-r
-overflow_sub-r c =
-    let m = c.args.m in
-    let long = regions_long m _ c.well_formed.0 in
-    let known = live_at m long c.requires.laid c.loop-high.low (omega arith) in
-    omega (arith, ap (λ (g : Region). g.start) known)
-
-pub returns-then-r-g : goal.returns-then-r-g
-returns-then-r-g c =
-    let m = c.args.m in
-    let l = c.loop-high in
-    let long = regions_long m _ c.well_formed.0 in
-    let known = live_at m long c.requires.laid l.low (omega arith) in
-    let here = ended m c.args.row.0 l.low l.high (live_count m long c.requires.laid) l.invariant.0 l.invariant.1 l.invariant.3 l.invariant.4 c.loop-high-test.false in
-    last_hit (live m) c.requires.tiled c.args.row.0 l.low here (rw known c.if-r-g.true)
+    let count = live_count m long c.requires.laid in
+    let cut = IsPartitionPoint-from_clause (λ (g : Region). leb g.start r) _ _ c.partition_point-after.ensures.partitioned (starts_parted gs t r) (λ a r q k. search rules) in
+    let e : c.in_ok-place.place ≡ c.partition_point-after.result - 1 = omega (arith, c.in_ok-place.ensures) in
+    let last : Last gs r c.in_ok-place.place = rw e (cut_last gs t r c.partition_point-after.result cut (omega (arith, c.in_ok-place.ensures)) c.partition_point-after.ensures.bound) in
+    let known = live_at m long c.requires.laid c.in_ok-place.place (omega (arith, last.below)) in
+    last_hit gs t r c.in_ok-place.place last (rw known c.if-row-g.true)
 
 pub returns : goal.returns
 returns c =
     let m = c.args.m in
-    let l = c.loop-high in
+    let gs = live m in
+    let r = c.args.row.0 in
+    let t = c.requires.tiled in
     let long = regions_long m _ c.well_formed.0 in
-    let known = live_at m long c.requires.laid l.low (omega arith) in
-    let here = ended m c.args.row.0 l.low l.high (live_count m long c.requires.laid) l.invariant.0 l.invariant.1 l.invariant.3 l.invariant.4 c.loop-high-test.false in
-    last_none (live m) c.requires.tiled c.args.row.0 l.low here (rw known c.if-r-g.false)
+    let count = live_count m long c.requires.laid in
+    let cut = IsPartitionPoint-from_clause (λ (g : Region). leb g.start r) _ _ c.partition_point-after.ensures.partitioned (starts_parted gs t r) (λ a r q k. search rules) in
+    let e : c.in_ok-place.place ≡ c.partition_point-after.result - 1 = omega (arith, c.in_ok-place.ensures) in
+    let last : Last gs r c.in_ok-place.place = rw e (cut_last gs t r c.partition_point-after.result cut (omega (arith, c.in_ok-place.ensures)) c.partition_point-after.ensures.bound) in
+    let known = live_at m long c.requires.laid c.in_ok-place.place (omega (arith, last.below)) in
+    last_none gs t r c.in_ok-place.place last (rw known c.if-row-g.false)

@@ -1,33 +1,14 @@
-use Rattle.std.proofs.Common.{refl, sym, ap, ◌∙◌, drop, arith}
-use Rattle.model.specs.Nodes.{node_at}
+use Rattle.std.proofs.Common.{◌≡◌, ◌∙◌, arith, length, rules, tests}
+use Rattle.std.proofs.lemmas.Iterator.{YieldsList-from_slice, YieldsList-from_zip}
+use Rattle.std.proofs.lemmas.Iterator.Search.{all_from_yields_List}
 use Rattle.model.proofs.Arrays.{nodes_long}
-use Rattle.sound.specs.Tests.{parts, total_is, totals_ok}
-use Rattle.sound.proofs.Places.{all_next, all_stop, all_end}
+use Rattle.sound.proofs.Totals.{total_pair, totals_paired}
 use Rattle.sound.proofs.totals_ok.Goals as goal
-
-pub loop-k-init : goal.loop-k-init
-unfolding totals_ok
-loop-k-init c = (omega arith, refl)
-
-pub returns-then-not-total_is : goal.returns-then-not-total_is
-returns-then-not-total_is c =
-    let ns = c.args.m.nodes in
-    let l = c.loop-k in
-    let size = nodes_long c.args.m _ c.well_formed.0 in
-    let same = ap (total_is (node_at ns l.k)) (c.child_sums-sums.ensures.sums c.if-not-sums.false l.k (omega arith)) in
-    sym (all_stop (λ i n. total_is n (parts i (drop 1 ns))) ns l.k (omega arith) (sym same ∙ sym c.total_is.ensures ∙ c.if-not-total_is.true)) ∙ l.invariant.1
-
-pub loop-k-preserved : goal.loop-k-preserved
-loop-k-preserved c =
-    let ns = c.args.m.nodes in
-    let l = c.loop-k in
-    let size = nodes_long c.args.m _ c.well_formed.0 in
-    let same = ap (total_is (node_at ns l.k)) (c.child_sums-sums.ensures.sums c.if-not-sums.false l.k (omega arith)) in
-    (omega arith, sym (all_next (λ i n. total_is n (parts i (drop 1 ns))) ns l.k (omega arith) (sym same ∙ sym c.total_is.ensures ∙ c.if-not-total_is.false)) ∙ l.invariant.1)
 
 pub returns : goal.returns
 returns c =
     let ns = c.args.m.nodes in
-    let l = c.loop-k in
+    let of = c.in-Some.sums in
     let size = nodes_long c.args.m _ c.well_formed.0 in
-    sym (all_end (λ i n. total_is n (parts i (drop 1 ns))) ns l.k (omega arith)) ∙ l.invariant.1
+    let long : length of ≡ 256 = omega arith in
+    all_from_yields_List total_pair c.all.new.self _ c.all.result c.all.ensures.ran (YieldsList-from_zip (YieldsList-from_slice ns (cc)) (YieldsList-from_slice of (cc))) (λ x b q k. search (rules, tests)) ∙ totals_paired ns of size long c.in-Some.ensures

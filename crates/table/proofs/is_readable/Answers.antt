@@ -1,9 +1,11 @@
-use Rattle.std.proofs.Common.{sym}
-use Rattle.table.proofs.Lookup.{readable_empty, readable_some}
+use Rattle.std.proofs.Common.{rules}
+use Rattle.model.specs.Table.{readable}
 use Rattle.table.proofs.is_readable.Goals as goal
 
-pub returns-then-table-eq0 : goal.returns-then-table-eq0
-returns-then-table-eq0 c = sym (readable_empty c.args.table.now c.if-table-eq0.true)
+pub returns-then-not-is_empty : goal.returns-then-not-is_empty
+unfolding readable
+returns-then-not-is_empty c = search rules
 
-pub returns : goal.returns
-returns c = sym (readable_some c.args.table.now c.if-table-eq0.false)
+pub returns-else-not-is_empty : goal.returns-else-not-is_empty
+unfolding readable
+returns-else-not-is_empty c = search rules

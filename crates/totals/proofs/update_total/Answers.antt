@@ -25,20 +25,10 @@ bounds-q-above c =
     let l = c.loop-k in
     above_small c.args.expanded c.args.rows c.args.m c.requires.well_formed c.args.node l.q l.k c.loop-k-test.true l.invariant
 
-pub moved_total-requires : goal.moved_total-requires
-moved_total-requires c =
+pub moved_total-parent-requires : goal.moved_total-parent-requires
+moved_total-parent-requires c =
     let l = c.loop-k in
     above_movable c.args.expanded c.args.rows c.args.m c.requires.well_formed c.args.node l.q l.k c.loop-k-test.true l.invariant c.requires.all_movable
-
-pub offset_bounds-q-above-in-loop-k : goal.offset_bounds-q-above-in-loop-k
-offset_bounds-q-above-in-loop-k c =
-    let l = c.loop-k in
-    omega (arith, above_small c.args.expanded c.args.rows c.args.m c.requires.well_formed c.args.node l.q l.k c.loop-k-test.true l.invariant)
-
-pub bounds-q-above-in-loop-k : goal.bounds-q-above-in-loop-k
-bounds-q-above-in-loop-k c =
-    let l = c.loop-k in
-    above_small c.args.expanded c.args.rows c.args.m c.requires.well_formed c.args.node l.q l.k c.loop-k-test.true l.invariant
 
 pub loop-k-smaller : goal.loop-k-smaller
 loop-k-smaller c =
@@ -48,7 +38,7 @@ loop-k-smaller c =
 pub loop-k-preserved : goal.loop-k-preserved
 loop-k-preserved c =
     let l = c.loop-k in
-    above_step c.args.expanded c.args.rows c.args.m c.requires.well_formed c.args.node l.q l.k c.moved_total.result c.loop-k-test.true l.invariant c.moved_total.ensures
+    above_step c.args.expanded c.args.rows c.args.m c.requires.well_formed c.args.node l.q l.k c.moved_total-parent.result c.loop-k-test.true l.invariant c.moved_total-parent.ensures
 
 pub returns : goal.returns
 returns c =

@@ -38,10 +38,10 @@ collapse-requires-clause-tiled c = sound_tiled c.args.m c.requires.sound
 pub collapse-requires-clause-place_in_bounds :
     goal.collapse-requires-clause-place_in_bounds
 collapse-requires-clause-place_in_bounds c =
-    let at = sym c.find_region.ensures ∙ c.in-At.is in
+    let at = sym c.find_region.ensures ∙ c.in-Some.is in
     (found_below c.args.m c.requires.sound _ _ at, omega (arith, sound_total c.args.m c.requires.sound, c.requires.sound.limit))
 
 pub returns : goal.returns
 returns c =
-    let at = sym c.find_region.ensures ∙ c.in-At.is in
+    let at = sym c.find_region.ensures ∙ c.in-Some.is in
     c.collapse.ensures ∙ children_out c.args.m c.requires.sound c.args.node c.requires.closable _ (below c.args.m c.row_of-row.result (row_of c.args.m.nodes c.args.node) c.row_of-row.ensures ∙ at)

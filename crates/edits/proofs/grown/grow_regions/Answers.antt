@@ -3,7 +3,8 @@ use Rattle.model.specs.declared.RowNumber.{RowNumber}
 use Rattle.model.specs.Nodes.{direct_of}
 use Rattle.runs.specs.Changes.{joined, grown}
 use Rattle.runs.specs.Laid.{live, laid}
-use Rattle.edits.proofs.Growing.{sound_laid, sound_tiled, sound_few, room, regions_after}
+use Rattle.steps.proofs.SoundRegions.{sound_laid, sound_tiled}
+use Rattle.edits.proofs.Growing.{sound_few, room, regions_after}
 use Rattle.edits.proofs.grown.grow_regions.Goals as goal
 
 pub grow-requires-clause-laid : goal.grow-requires-clause-laid

@@ -8,7 +8,7 @@ complete-requires-clause-sound c = (grown_ready c.args.m c.args.k c.args.count c
 pub complete-requires-clause-opens : goal.complete-requires-clause-opens
 complete-requires-clause-opens c = (grown_ready c.args.m c.args.k c.args.count c.requires.visitable c.requires.opens c.grow_open-q.result c.grow_open-q.ensures).1
 
-pub returns : goal.returns
-returns c =
+pub returns-else-ongoing : goal.returns-else-ongoing
+returns-else-ongoing c =
     c.complete.ensures
     ∙ complete_open c.args.m c.args.k c.args.count c.requires.visitable c.requires.opens c.args.ongoing c.if-ongoing.false c.grow_open-q.result c.grow_open-q.ensures

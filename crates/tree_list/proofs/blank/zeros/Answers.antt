@@ -1,5 +1,5 @@
-use Rattle.tree_list.proofs.AnswerNew.{zeros_filled}
+use Rattle.model.proofs.Zeros.{node_zero, region_zero, model_zero}
 use Rattle.tree_list.proofs.blank.zeros.Goals as goal
 
 pub returns : goal.returns
-returns c = zeros_filled c.no_node-node.result c.no_region-region.result c.no_node-node.ensures c.no_region-region.ensures
+returns c = model_zero c.default.result node_zero region_zero c.default.ensures

@@ -1,50 +1,66 @@
-use Rattle.std.proofs.Common.{sym, ◌∙◌}
+use Rattle.std.proofs.Common.{sym, ap, subst, ◌∙◌}
+use Rattle.std.proofs.lemmas.Result.{err_from_is_err_and}
+use Rattle.model.specs.declared.Model.{Model}
+use Rattle.model.specs.declared.Refused.{Refused}
+use Rattle.model.specs.Answers.{number, no_change}
+use Rattle.model.specs.Close.{close_node}
+use Rattle.tree.specs.WellFormed.{Opens}
 use Rattle.steps.proofs.Settling.{sound_of}
 use Rattle.steps.proofs.SoundRegions.{sound_laid, sound_tiled, row_none, found_inside}
+use Rattle.model.proofs.UnlessZero.{some_is}
+use Rattle.tree_list.proofs.Checked.{checked_sound, checked_parent, checked_index}
 use Rattle.tree_list.proofs.AnswerClose.{close_unsound, close_past, close_none, close_answer, open_child_opens}
 use Rattle.tree_list.proofs.closing.close.Goals as goal
 
-pub returns-then-not-is_sound : goal.returns-then-not-is_sound
-returns-then-not-is_sound c =
-    c.no_change.ensures ∙ sym (close_unsound c.args.m c.args.row.0 (sym c.is_sound.ensures ∙ c.if-not-is_sound.true))
+pub returns-in_err-checked : goal.returns-in_err-checked
+returns-in_err-checked c =
+    let p = err_from_is_err_and c.from_residual.result c.from_residual.ensures.1 in
+    rw (p.1, p.2) (ap (λ (e : Refused). no_change (number e.refusal) e.model) c.in_err-checked.ensures.err.1 ∙ sym (close_unsound c.args.m c.args.row.0 c.in_err-checked.ensures.err.0))
 
-pub find_region-requires : goal.find_region-requires
-find_region-requires c =
-    let whole = sound_of c.args.m (sym c.is_sound.ensures ∙ c.if-not-is_sound.false) in
-    record { laid = sound_laid c.args.m whole; tiled = sound_tiled c.args.m whole }
+pub find_region-requires-clause-laid : goal.find_region-requires-clause-laid
+find_region-requires-clause-laid c = sound_laid c.args.m (sound_of c.args.m (checked_sound c.args.m c.in_ok-checked.checked c.in_ok-checked.ensures.ok))
+
+pub find_region-requires-clause-tiled : goal.find_region-requires-clause-tiled
+find_region-requires-clause-tiled c = sound_tiled c.args.m (sound_of c.args.m (checked_sound c.args.m c.in_ok-checked.checked c.in_ok-checked.ensures.ok))
 
 pub returns-in_default : goal.returns-in_default
 returns-in_default c =
     let m = c.args.m in
-    let e = sym c.is_sound.ensures ∙ c.if-not-is_sound.false in
-    c.no_change-in_default.ensures
-    ∙ sym (close_past m c.args.row.0 e (row_none m (sound_of m e) c.args.row.0 (sym c.find_region.ensures ∙ c.in_default.is)))
+    let r = c.args.row.0 in
+    let s = checked_sound m c.in_ok-checked.checked c.in_ok-checked.ensures.ok in
+    ap (λ (e : Refused). no_change (number e.refusal) e.model) c.refused.ensures
+    ∙ sym (close_past m r s (row_none m (sound_of m s) r (sym c.find_region.ensures ∙ c.in_default.is)))
 
-pub returns-then-node-eq0 : goal.returns-then-node-eq0
-returns-then-node-eq0 c =
+pub returns-in_default-open_child_of : goal.returns-in_default-open_child_of
+returns-in_default-open_child_of c =
     let m = c.args.m in
-    let k = c.open_child_of-node in
-    let i = c.index_of-index in
-    let p = c.parent_of-parent in
-    let e = sym c.is_sound.ensures ∙ c.if-not-is_sound.false in
-    let h = sym c.find_region.ensures ∙ c.in-At.is in
-    close_answer m c.args.row.0 p.result k.result i.result p.ensures i.ensures k.ensures e
-    (found_inside m (sound_of m e) c.args.row.0 _ h)
-    c.no_change-then-node-eq0.result (c.no_change-then-node-eq0.ensures ∙ sym (close_none m k.result c.if-node-eq0.true))
+    let r = c.args.row.0 in
+    let s = checked_sound m c.in_ok-checked.checked c.in_ok-checked.ensures.ok in
+    let h = sym c.find_region.ensures ∙ c.in-Some.is in
+    let x = c.row_at-parent in
+    let d = checked_parent m c.in_ok-checked.checked c.in_ok-checked.ensures.ok r x.result.0 x.ensures.parent in
+    let i = checked_index m c.in_ok-checked.checked c.in_ok-checked.ensures.ok r x.result.1 x.ensures.index in
+    c.unchanged.ensures
+    ∙ sym (close_none m _ (sym c.in_default-open_child_of.is ∙ c.open_child_of.ensures))
+    ∙ close_answer m r x.result.0 x.result.1 d i s (found_inside m (sound_of m s) r _ h)
+
+pub close_all-requires-clause-node_nonzero : goal.close_all-requires-clause-node_nonzero
+close_all-requires-clause-node_nonzero c = (open_child_opens c.args.m _ _ _ (sym c.in-Some-open_child_of.is ∙ c.open_child_of.ensures)).0
 
 pub close_all-requires-clause-opens : goal.close_all-requires-clause-opens
 close_all-requires-clause-opens c =
-    let k = c.open_child_of-node in
-    open_child_opens c.args.m _ _ k.result k.ensures c.if-node-eq0.false
+    subst (λ (q : Model). Opens q.nodes c.in-Some-open_child_of.node) (sym c.in_ok-checked.ensures.ok) (open_child_opens c.args.m _ _ _ (sym c.in-Some-open_child_of.is ∙ c.open_child_of.ensures)).1
 
 pub returns : goal.returns
 returns c =
     let m = c.args.m in
-    let k = c.open_child_of-node in
-    let i = c.index_of-index in
-    let p = c.parent_of-parent in
-    let e = sym c.is_sound.ensures ∙ c.if-not-is_sound.false in
-    let h = sym c.find_region.ensures ∙ c.in-At.is in
-    close_answer m c.args.row.0 p.result k.result i.result p.ensures i.ensures k.ensures e
-    (found_inside m (sound_of m e) c.args.row.0 _ h)
-    c.close_all.result c.close_all.ensures
+    let r = c.args.row.0 in
+    let s = checked_sound m c.in_ok-checked.checked c.in_ok-checked.ensures.ok in
+    let h = sym c.find_region.ensures ∙ c.in-Some.is in
+    let x = c.row_at-parent in
+    let d = checked_parent m c.in_ok-checked.checked c.in_ok-checked.ensures.ok r x.result.0 x.ensures.parent in
+    let i = checked_index m c.in_ok-checked.checked c.in_ok-checked.ensures.ok r x.result.1 x.ensures.index in
+    c.close_all.ensures
+    ∙ ap (λ (q : Model). close_node q c.in-Some-open_child_of.node) c.in_ok-checked.ensures.ok
+    ∙ ap (close_node m) (some_is _ c.in-Some-open_child_of.node (sym c.in-Some-open_child_of.is ∙ c.open_child_of.ensures)).0
+    ∙ close_answer m r x.result.0 x.result.1 d i s (found_inside m (sound_of m s) r _ h)

@@ -1,6 +1,5 @@
-use Rattle.std.proofs.Common.{refl}
-use Rattle.model.specs.Fetch.{shown}
+use Rattle.tree_list.proofs.AnswerFetch.{shown_as}
 use Rattle.tree_list.proofs.fetching.shown.Goals as goal
 
 pub returns : goal.returns
-returns c = unfold shown in refl
+returns c = λ k e. shown_as c.args.m.nodes c.args.n c.args.node k e

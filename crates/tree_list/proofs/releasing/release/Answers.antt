@@ -1,33 +1,55 @@
 use Rattle.std.proofs.Common.{sym, ap, ◌∙◌}
+use Rattle.std.proofs.lemmas.Result.{err_from_is_err_and}
+use Rattle.model.specs.declared.Model.{Model}
+use Rattle.model.specs.declared.Refused.{Refused}
+use Rattle.model.specs.Answers.{number, just_model}
+use Rattle.model.specs.Nodes.{child}
 use Rattle.model.specs.Release.{release_node}
 use Rattle.steps.proofs.Settling.{sound_of}
 use Rattle.steps.proofs.SoundRegions.{sound_laid, sound_tiled, row_none, found_inside}
-use Rattle.tree_list.proofs.SoundRows.{child_small, row_child}
+use Rattle.model.proofs.UnlessZero.{some_is}
+use Rattle.tree_list.proofs.SoundRows.{child_small}
+use Rattle.tree_list.proofs.Checked.{checked_sound, checked_parent, checked_index}
 use Rattle.tree_list.proofs.AnswerRelease.{release_unsound, release_past, release_row}
 use Rattle.tree_list.proofs.releasing.release.Goals as goal
 
-pub returns-then-not-is_sound : goal.returns-then-not-is_sound
-returns-then-not-is_sound c = c.just_model.ensures ∙ sym (release_unsound c.args.m c.args.row.0 (sym c.is_sound.ensures ∙ c.if-not-is_sound.true))
+pub returns-in_err-checked : goal.returns-in_err-checked
+returns-in_err-checked c =
+    let p = err_from_is_err_and c.from_residual.result c.from_residual.ensures.1 in
+    rw (p.1, p.2) (ap (λ (e : Refused). just_model (number e.refusal) e.model) c.in_err-checked.ensures.err.1 ∙ sym (release_unsound c.args.m c.args.row.0 c.in_err-checked.ensures.err.0))
 
 pub find_region-requires-clause-laid : goal.find_region-requires-clause-laid
-find_region-requires-clause-laid c = sound_laid c.args.m (sound_of c.args.m (sym c.is_sound.ensures ∙ c.if-not-is_sound.false))
+find_region-requires-clause-laid c = sound_laid c.args.m (sound_of c.args.m (checked_sound c.args.m c.in_ok-checked.checked c.in_ok-checked.ensures.ok))
 
 pub find_region-requires-clause-tiled : goal.find_region-requires-clause-tiled
-find_region-requires-clause-tiled c = sound_tiled c.args.m (sound_of c.args.m (sym c.is_sound.ensures ∙ c.if-not-is_sound.false))
+find_region-requires-clause-tiled c = sound_tiled c.args.m (sound_of c.args.m (checked_sound c.args.m c.in_ok-checked.checked c.in_ok-checked.ensures.ok))
 
 pub returns-in_default : goal.returns-in_default
 returns-in_default c =
-    let e = sym c.is_sound.ensures ∙ c.if-not-is_sound.false in
-    c.just_model-in_default.ensures
-    ∙ sym (release_past c.args.m c.args.row.0 e (row_none c.args.m (sound_of c.args.m e) c.args.row.0 (sym c.find_region.ensures ∙ c.in_default.is)))
+    let m = c.args.m in
+    let r = c.args.row.0 in
+    let s = checked_sound m c.in_ok-checked.checked c.in_ok-checked.ensures.ok in
+    ap (λ (e : Refused). just_model (number e.refusal) e.model) c.refused.ensures
+    ∙ sym (release_past m r s (row_none m (sound_of m s) r (sym c.find_region.ensures ∙ c.in_default.is)))
 
-pub release_node-requires-clause-node_bound : goal.release_node-requires-clause-node_bound
-release_node-requires-clause-node_bound c = rw c.child_of.ensures (child_small c.args.m (sym c.is_sound.ensures ∙ c.if-not-is_sound.false) _ _)
+pub release_node-requires : goal.release_node-requires
+release_node-requires c =
+    let m = c.args.m in
+    let r = c.args.row.0 in
+    let s = checked_sound m c.in_ok-checked.checked c.in_ok-checked.ensures.ok in
+    λ k e. rw (some_is _ k (sym e ∙ c.child_of.ensures)).0 (child_small m s _ _)
 
 pub returns : goal.returns
 returns c =
-    let e = sym c.is_sound.ensures ∙ c.if-not-is_sound.false in
-    let h = sym c.find_region.ensures ∙ c.in-At.is in
-    c.release_node.ensures
-    ∙ ap (release_node c.args.m) (row_child c.args.m c.args.row.0 c.parent_of-parent.result c.child_of.result c.index_of-index.result c.parent_of-parent.ensures c.index_of-index.ensures c.child_of.ensures)
-    ∙ sym (release_row c.args.m c.args.row.0 e (found_inside c.args.m (sound_of c.args.m e) c.args.row.0 _ h))
+    let m = c.args.m in
+    let r = c.args.row.0 in
+    let s = checked_sound m c.in_ok-checked.checked c.in_ok-checked.ensures.ok in
+    let h = sym c.find_region.ensures ∙ c.in-Some.is in
+    let x = c.row_at-parent in
+    let d = checked_parent m c.in_ok-checked.checked c.in_ok-checked.ensures.ok r x.result.0 x.ensures.parent in
+    let i = checked_index m c.in_ok-checked.checked c.in_ok-checked.ensures.ok r x.result.1 x.ensures.index in
+    let k = child m.nodes x.result.0 x.result.1.0 in
+    c.release_node.ensures k c.child_of.ensures
+    ∙ ap (λ (q : Model). release_node q k) c.in_ok-checked.ensures.ok
+    ∙ (λ z. release_node m (child m.nodes (d z) (i z).0))
+    ∙ sym (release_row m r s (found_inside m (sound_of m s) r _ h))
