@@ -120,8 +120,8 @@ pub enum Refusal {
     RowOpen,
 }
 
-// A refused call hands the model back as it came. It comes first, as in the answers below: where the two arms of a
-// `Result` held it at different places, the native compiler split it byte by byte.
+// A refused call hands the model back as it came. It stands first, as in the answers below, so that both arms of a
+// `Result` hold it at one place: the native compiler takes minutes over a function that finds it at two.
 #[derive(Clone, Copy)]
 pub struct Refused {
     pub model: Model,

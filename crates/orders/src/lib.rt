@@ -3,7 +3,8 @@
 // The recursions, with an allowance that falls at each level, read the lent nodes and push onto a lent
 // vector, so that a level takes little of the stack; the model by value stays outside them.
 //
-// Both public functions take any `Model`, with clauses for what holds of it: docs/PROMISES.md names them.
+// Both public functions take any `Model`, with clauses for what holds of it: docs/PROMISES.md names them. A node's number
+// is plain, as in `model::Node`, and asked to be below 256 where it is read.
 #![tactic(auto)]
 
 ghost use Rattle.std.specs.Prelude.{◌≡◌, ◌+◌, ◌<◌, ◌≤◌, ◌++◌, length};

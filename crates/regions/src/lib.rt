@@ -1,7 +1,7 @@
 // The region map: which rows are children of which node. Regions stand in ascending order of their starts.
 //
-// The public functions, which README.md names, take any `Model` and ask `Laid` and `Tiled` of it: a type with these
-// invariants would ask more of a caller. Inside, `RegionMap` has the first.
+// The public functions over a `Model`, which README.md names, take any and ask `Laid` of it, and `Tiled` where they need it: a
+// type with these invariants would ask more of a caller. Inside, `RegionMap` has the first.
 #![tactic(auto)]
 
 ghost use Rattle.std.specs.Prelude.{◌≡◌, ◌+◌, ◌<◌, ◌≤◌, ◌^◌, length, take};

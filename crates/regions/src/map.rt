@@ -127,7 +127,8 @@ impl RegionMap {
     }
 
     // Neighbours of one node become one region: in a second list, each region joins the one before it or comes after it.
-    // That list is an array and a count, as the places are that it becomes: a vector would be copied into them.
+    // That list is an array and a count, as the places are that it becomes: a vector would be copied into them. The count
+    // is of the regions written, not of those read.
     pub fn merge_regions(&mut self)
         requires { total self.old < 2 ^ 64 }
         ensures { self.new ≡ joined self.old }

@@ -1,8 +1,8 @@
 // The soundness test: document 01's definition of a sound model, decided for any model whatever.
 //
-// Each part goes over the model once: the places and the totals in a pass over the nodes each, the regions in
-// one walk along the rows, and twins over pairs of nodes. No number is added before it is known to fit. No chain
-// of parents is climbed: a total is below its parent's, so right totals let no chain go round.
+// The places take a pass over the nodes, the totals two, the regions one walk along the rows, and twins go over pairs
+// of nodes. No number is added before it is known to fit. No chain of parents is followed to see where it ends: a total
+// is below its parent's, so right totals let no chain go round.
 #![tactic(auto)]
 
 ghost use Rattle.std.specs.Prelude.{◌≡◌, true, ◌<◌, ◌≤◌, drop};

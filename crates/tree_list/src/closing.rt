@@ -11,7 +11,7 @@ use crate::logs::{log_also, no_log, unchanged};
 use crate::rows::row_at;
 use model::{Changed, Kind, Log, Model, Record, Refusal, Refused, RowNumber};
 
-// One record more: so many rows go from below a row.
+// One record more, for which there is room, as `log_also` asks: so many rows go from below a row.
 fn log_closing(log: Log, row: RowNumber, count: u64) -> Log
     requires len_bound { log.len < 512 }
     requires row_bound { suc row.0 < 2 ^ 64 }

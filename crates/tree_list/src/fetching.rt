@@ -1,4 +1,6 @@
 // Fetch: what a row shows. An ongoing row is followed from then on.
+//
+// A node's number is plain, as in `model::Node`, and asked to be below 256 where it is read.
 ghost use Rattle.std.specs.Prelude.{◌≡◌, ℕ, true, ◌<◌, Some, None};
 ghost use Rattle.model.specs.Places.{unless_zero};
 ghost use Rattle.model.specs.Answers.{fetch_answer};
@@ -36,7 +38,7 @@ fn fresh(table: &[u64], m: Model, parent: u64, index: ChildIndex) -> Node
 }
 
 // The node of a row, which has a number, or would get one. Here and below `node ≡ unless_zero k` says which k the
-// definitions have for the option: a clause over it is shorter than a second reading of every definition.
+// definitions have for the option: they take the number as it is, 0 for none.
 pub fn node_or_fresh(
     table: &[u64],
     m: Model,

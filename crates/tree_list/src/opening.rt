@@ -1,4 +1,6 @@
 // Open: a row's children become rows below it. An open row is done with no change.
+//
+// `node ≡ unless_zero k` says which number k the definitions, which have 0 for none, take for the option.
 ghost use Rattle.std.specs.Prelude.{◌≡◌, ℕ, [], ◌∷◌, suc, ◌<◌, ◌^◌, Ok};
 ghost use Rattle.model.specs.Places.{unless_zero};
 ghost use Rattle.model.specs.Answers.{change_answer};

@@ -1,4 +1,7 @@
 // Release: a closed row is followed no longer.
+//
+// `node ≡ unless_zero k` says which number k the definitions, which have 0 for none, take for the option. A number is plain,
+// as in `model::Node`, and asked to be below 256 where it is read.
 ghost use Rattle.std.specs.Prelude.{◌≡◌, ℕ, ◌<◌, Some};
 ghost use Rattle.model.specs.Places.{unless_zero};
 ghost use Rattle.model.specs.Answers.{model_answer};

@@ -1,4 +1,6 @@
 // Update: each followed row is visited, unless an item went back or there would be too many rows.
+//
+// A step's node has a plain number, as in `model::Node`, and is asked to be below 256 where it is read.
 ghost use Rattle.std.specs.Prelude.{◌≡◌, ◌<◌, true, false, [], All, ltb};
 ghost use Rattle.model.specs.Answers.{update_answer};
 ghost use Rattle.model.specs.Places.{row_limit};

@@ -18,7 +18,7 @@ use crate::logs::{log_also, no_log};
 use model::{Changed, Kind, Log, Model, Record, Step, Updated};
 
 // The text of a node's row changed. Between two steps the model stands in a `Changed`, so that its soundness is a clause
-// here: `Texted` and `Grown` say it together with what the step needs.
+// here: `Texted` and `Grown` say it together with what the step needs. Room in the log is asked as `log_also` asks it.
 fn log_text(m: Model, log: Log, k: u64) -> Log
     requires sound { Sound m }
     requires used { Used m.nodes k }
