@@ -184,9 +184,8 @@ fn node_faults(rt: &impl Print) -> io::Result<()> {
     let mut e = small();
     e.nodes[2].index = 2;
     say(rt, "an index at the parent's count", e)?;
-    let mut f = small();
-    f.nodes[1].direct = 0;
-    f.nodes[1].total = 0;
+    let mut f = flat(3);
+    f.nodes[1] = open_node(0, 1, 7, 0, 0);
     say(rt, "an open node without children", f)?;
     Ok(())
 }
