@@ -19,7 +19,7 @@ use Rattle.std.specs.Prelude.{Some, None}
 use Rattle.model.specs.Places.{depth, log_places, unless_zero}
 use Rattle.model.proofs.UnlessZero.{some_is, none_is}
 use Rattle.model.specs.Nodes.{direct_of, is_open, open_child}
-use Rattle.model.specs.Rows.{row_total, row_at, place, row_of}
+use Rattle.model.specs.Rows.{Row, row_total, row_at, place, row_of}
 use Rattle.model.specs.Settle.{settle}
 use Rattle.model.specs.Sound.{sound}
 use Rattle.model.specs.Logs.{State, state, rows_change, log_of}
@@ -38,6 +38,7 @@ use Rattle.edits.specs.Closable.{Closable}
 use Rattle.edits.proofs.InnerFirst.{Ready, inner_first}
 use Rattle.tree_list.specs.Logging.{logged}
 use Rattle.tree_list.proofs.Records.{logged_of}
+use Rattle.tree_list.proofs.Checked.{RowFound}
 use Rattle.tree_list.proofs.Turns.{ready_closable, ready_direct, each_next, each_logged}
 
 module _ (m : Model) (r : ℕ) where
@@ -62,10 +63,9 @@ unfolding close_node
 close_some m zero h = absurd (omega arith)
 close_some m (suc k) h = refl
 
--- the open node of the row that was found, as the calls' answers give it
-module _ (m : Model) (r p : ℕ) (i : ChildIndex) (d : p ≡ (row_at m.nodes r).0) (e : i ≡ record { 0 = (row_at m.nodes r).1 }) where
-  pub close_answer : sound m ≡ true → r < row_total m.nodes → close_node m (open_child m.nodes p i.0) ≡ answer_close m r
-  close_answer s h = ap (close_node m) (λ t. open_child m.nodes (d t) (e t).0) ∙ sym (close_row m r s h)
+-- the open node of a row that was found
+pub close_answer : (m : Model) (r p : ℕ) (i : ChildIndex) → RowFound m r p i → close_node m (open_child m.nodes p i.0) ≡ answer_close m r
+close_answer m r p i F = ap (λ (x : Row). close_node m (open_child m.nodes x.0 x.1)) F.stands ∙ sym (close_row m r F.whole F.inside)
 
 pub open_child_opens : (m : Model) (p i k : ℕ) → Some k ≡ unless_zero (open_child m.nodes p i) → (0 < k) × Opens m.nodes k
 open_child_opens m p i k g = by k (some_is (open_child m.nodes p i) k g)

@@ -1,7 +1,7 @@
 -- Fetch, by its refusals; the child lookup as the node that a row would get; a followed row's node put in place.
 use Prim.Native.Nat.{ℕ, zero, suc, ◌*◌, ◌≤◌, ◌<◌}
 use native.Mathlib.Omega.{arith}
-use mathlib.Core.Path.{◌≡◌, refl, sym, ap, ◌∙◌, subst}
+use mathlib.Core.Path.{◌≡◌, refl, sym, ap, ◌∙◌}
 use mathlib.Core.Logic.{◌⊎◌, inl, inr}
 use mathlib.Core.Bool.{Bool, true, false, cond, ◌&&◌, false≢true}
 use mathlib.Core.List.{List, [], ◌∷◌}
@@ -30,6 +30,7 @@ use Rattle.steps.proofs.Quiet.{quiet_followed}
 use Rattle.steps.proofs.Settling.{sound_of}
 use Rattle.tree_list.specs.Following.{Followable}
 use Rattle.tree_list.proofs.SoundRows.{child_small}
+use Rattle.tree_list.proofs.Checked.{RowFound}
 use Rattle.edits.proofs.InPlace.{quiet_in_place, put_totals}
 use Rattle.model.proofs.Search.{child_found}
 use Rattle.tree.proofs.WellFormed.{used_small, open_used}
@@ -157,23 +158,17 @@ fresh_followable t m e p i s c o j f =
     (quiet_followed t m.nodes S.well p i j s c f o)
     (put_totals m S (suc j) (fresh t m.nodes p i) (rw S.well.size at (free_unused m.nodes j f).0) refl refl)
 
--- the calls' answers one after another: parent, index and number of the row
-module _ (t : List ℕ) (m : Model) (r p : ℕ) (i : ChildIndex) (found : Option ℕ) (d : p ≡ (row_at m.nodes r).0) (e : i ≡ record { 0 = (row_at m.nodes r).1 }) (f : found ≡ unless_zero (child m.nodes p i.0)) where
+-- a row that was found: its number, as what was found of it, and its node
+module _ (t : List ℕ) (m : Model) (r p : ℕ) (i : ChildIndex) (F : RowFound m r p i) where
   abbrev number : ℕ
   number = child m.nodes p i.0
 
-  pub at_row : (p, i.0) ≡ row_at m.nodes r
-  at_row = λ s. (d s, (e s).0)
+  pub parent_small : p < 256
+  parent_small = let w = (sound_of m F.whole).well in used_small m.nodes w p (open_used m.nodes p F.shows.0)
 
-  pub row_shown : Shows m.nodes (row_at m.nodes r) → Shows m.nodes (p, i.0)
-  row_shown s = subst (Shows m.nodes) (sym at_row) s
-
-  module _ (sound-m : sound m ≡ true) (shows : Shows m.nodes (p, i.0)) where
-    pub parent_small : p < 256
-    parent_small = let w = (sound_of m sound-m).well in used_small m.nodes w p (open_used m.nodes p shows.0)
-
+  module _ (found : Option ℕ) (f : found ≡ unless_zero number) where
     pub number_small : (k : ℕ) → found ≡ Some k → k < 256
-    number_small k g = rw (some_is number k (sym g ∙ f)).0 (child_small m sound-m p i.0)
+    number_small k g = rw (some_is number k (sym g ∙ f)).0 (child_small m F.whole p i.0)
 
     module _ (n : Node) (h : n ≡ node_or_fresh t m.nodes (p, i.0) number) where
       pub node_parent : n.parent < 256
@@ -188,10 +183,10 @@ module _ (t : List ℕ) (m : Model) (r p : ℕ) (i : ChildIndex) (found : Option
       node_followable z o =
           let y : number ≡ 0 = none_is number (sym z ∙ f) in
           let q : n ≡ fresh t m.nodes p i.0 = h ∙ ap (node_or_fresh t m.nodes (p, i.0)) y in
-          rw q (fresh_followable t m sound-m p i.0 shows y (sym (ap (λ (x : Node). x.ongoing) q) ∙ o))
+          rw q (fresh_followable t m F.whole p i.0 F.shows y (sym (ap (λ (x : Node). x.ongoing) q) ∙ o))
 
-  pub fetch_asked : (n : Node) → n ≡ node_or_fresh t m.nodes (p, i.0) number → fetch_node m n number ≡ fetch_row t m (row_at m.nodes r)
-  fetch_asked n h = ap (λ (x : Node). fetch_node m x number) h ∙ ap (fetch_row t m) at_row
+      pub fetch_asked : readable t ≡ true → fetch_node m n number ≡ answer_fetch t m r
+      fetch_asked g = ap (λ (x : Node). fetch_node m x number) h ∙ ap (fetch_row t m) F.stands ∙ sym (fetch_row_lem t m r F.whole g F.inside)
 
 -- the same of a number that is 0, or isn't
 pub known_none : (t : List ℕ) (ns : List Node) (x : Row) (k : ℕ) → k ≡ 0 → node_or_fresh t ns x k ≡ fresh t ns x.0 x.1

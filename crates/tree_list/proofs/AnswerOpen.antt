@@ -32,6 +32,7 @@ use Rattle.tree.proofs.Rows.{total_shut}
 use Rattle.edits.specs.Openable.{Openable}
 use Rattle.tree_list.specs.OpenedRow.{CanOpen}
 use Rattle.tree_list.proofs.SoundRows.{row_there}
+use Rattle.tree_list.proofs.Checked.{RowFound}
 use Rattle.steps.proofs.SoundRegions.{found_inside}
 
 module _ (t : List ℕ) (m : Model) (r : ℕ) where
@@ -127,19 +128,19 @@ module _ (t : List ℕ) (m : Model) (s : sound m ≡ true) (place r p i : ℕ) (
         room = l;
       }
 
--- and so, by the calls' answers: parent, index and number of the row, and its node
-module _ (t : List ℕ) (m : Model) (r p : ℕ) (i : ChildIndex) (d : p ≡ (row_at m.nodes r).0) (e : i ≡ record { 0 = (row_at m.nodes r).1 }) where
+-- and so, of a row that was found
+module _ (t : List ℕ) (m : Model) (r p : ℕ) (i : ChildIndex) (F : RowFound m r p i) (n : Node) (g : n ≡ node_or_fresh t m.nodes (p, i.0) (child m.nodes p i.0)) where
   abbrev number : ℕ
   number = child m.nodes p i.0
 
-  module _ (n : Node) (g : n ≡ node_or_fresh t m.nodes (p, i.0) number) where
-    pub open_asked : open_node m r n (number_or_free m.nodes number) ≡ open_row t m r (row_at m.nodes r)
-    open_asked = ap (λ (x : Node). open_node m r x (number_or_free m.nodes number)) g ∙ (λ z. open_row t m r (d z, (e z).0))
+  pub open_asked : readable t ≡ true → open_node m r n (number_or_free m.nodes number) ≡ answer_open t m r
+  open_asked f =
+      ap (λ (x : Node). open_node m r x (number_or_free m.nodes number)) g
+      ∙ ap (open_row t m r) F.stands
+      ∙ sym (open_row_lem t m r F.whole f F.inside)
 
-    pub can_open : sound m ≡ true → (place : ℕ) → region_at (live m) r ≡ Some place → CanOpen m place r (number_or_free m.nodes number) n
-    can_open s place h =
-        let x : row_at m.nodes r ≡ (p, i.0) = λ z. (sym d z, (sym e z).0) in
-        subst (λ (y : Node). CanOpen m place r (number_or_free m.nodes number) y) (sym g) (shown_opens t m s place r p i.0 x h)
+  pub can_open : (place : ℕ) → region_at (live m) r ≡ Some place → CanOpen m place r (number_or_free m.nodes number) n
+  can_open place h = subst (λ (y : Node). CanOpen m place r (number_or_free m.nodes number) y) (sym g) (shown_opens t m F.whole place r p i.0 (sym F.stands) h)
 
 pub published_limit : (m : Model) → sound m ≡ true → m.published ≤ row_limit
 published_limit m s = let S = sound_of m s in omega (arith, (sound_given m S).published, S.limit)

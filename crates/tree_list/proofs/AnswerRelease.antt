@@ -9,7 +9,8 @@ use lib.ListN.{set}
 use borrow.Author.Tests.{le-leb, lt-leb}
 use Rattle.model.specs.declared.Model.{Model}
 use Rattle.model.specs.Nodes.{no_node, node_at, is_open, child}
-use Rattle.model.specs.Rows.{row_total, row_at}
+use Rattle.model.specs.declared.ChildIndex.{ChildIndex}
+use Rattle.model.specs.Rows.{Row, row_total, row_at}
 use Rattle.model.specs.Sound.{sound}
 use Rattle.model.specs.Answers.{just_model}
 use Rattle.model.specs.Release.{release_node, answer_release}
@@ -17,6 +18,7 @@ use Rattle.steps.specs.Settled.{with_nodes}
 use Rattle.steps.proofs.Settling.{sound_of}
 use Rattle.steps.proofs.Quiet.{quiet_freed}
 use Rattle.edits.proofs.InPlace.{quiet_in_place, freed_totals}
+use Rattle.tree_list.proofs.Checked.{RowFound}
 
 module _ (m : Model) (r : ℕ) where
   pub release_unsound : sound m ≡ false → answer_release m r ≡ just_model 1 m
@@ -30,6 +32,10 @@ module _ (m : Model) (r : ℕ) where
   pub release_row : sound m ≡ true → r < row_total m.nodes → answer_release m r ≡ release_node m (child m.nodes (row_at m.nodes r).0 (row_at m.nodes r).1)
   unfolding answer_release
   release_row e h = rw (e, lt-leb (row_total m.nodes) r h)
+
+-- the node of a row that was found
+pub release_answer : (m : Model) (r p : ℕ) (i : ChildIndex) → RowFound m r p i → release_node m (child m.nodes p i.0) ≡ answer_release m r
+release_answer m r p i F = ap (λ (x : Row). release_node m (child m.nodes x.0 x.1)) F.stands ∙ sym (release_row m r F.whole F.inside)
 
 module _ (m : Model) where
   pub release_none : (k : ℕ) → None ≡ unless_zero k → release_node m k ≡ just_model 0 m

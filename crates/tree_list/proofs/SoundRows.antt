@@ -9,7 +9,6 @@ use lib.Seq.{get_or-take}
 use Rattle.model.specs.declared.Region.{Region}
 use Rattle.model.specs.declared.Model.{Model}
 use Rattle.std.specs.Prelude.{Some}
-use Rattle.model.specs.declared.ChildIndex.{ChildIndex}
 use Rattle.model.specs.Nodes.{used, child}
 use Rattle.model.specs.Rows.{Row, row_at}
 use Rattle.model.specs.Regions.{no_region}
@@ -76,7 +75,3 @@ child_small m e p i = go (child m.nodes p i) refl
     go : (k : ℕ) → child m.nodes p i ≡ k → child m.nodes p i < 256
     go zero z = rw z (omega arith)
     go (suc k) z = rw z (used_small m.nodes (sound_of m e).well (suc k) (child_found used m.nodes p i k z).0)
-
--- the node of the row that was found, as the calls' answers give it
-pub row_child : (m : Model) (r p k : ℕ) (i : ChildIndex) → p ≡ (row_at m.nodes r).0 → i ≡ record { 0 = (row_at m.nodes r).1 } → k ≡ child m.nodes p i.0 → k ≡ child m.nodes (row_at m.nodes r).0 (row_at m.nodes r).1
-row_child m r p k i d e f = f ∙ (λ t. child m.nodes (d t) (e t).0)

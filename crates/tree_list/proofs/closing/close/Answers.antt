@@ -3,12 +3,12 @@ use Rattle.std.proofs.lemmas.Result.{err_from_is_err_and}
 use Rattle.model.specs.declared.Model.{Model}
 use Rattle.model.specs.declared.Refused.{Refused}
 use Rattle.model.specs.Answers.{number, no_change}
+use Rattle.steps.proofs.Settling.{sound_of}
+use Rattle.steps.proofs.SoundRegions.{row_none}
+use Rattle.tree_list.proofs.Checked.{checked_sound, checked_laid, checked_tiled, row_found}
 use Rattle.model.specs.Close.{close_node}
 use Rattle.tree.specs.WellFormed.{Opens}
-use Rattle.steps.proofs.Settling.{sound_of}
-use Rattle.steps.proofs.SoundRegions.{sound_laid, sound_tiled, row_none, found_inside}
 use Rattle.model.proofs.UnlessZero.{some_is}
-use Rattle.tree_list.proofs.Checked.{checked_sound, checked_parent, checked_index}
 use Rattle.tree_list.proofs.AnswerClose.{close_unsound, close_past, close_none, close_answer, open_child_opens}
 use Rattle.tree_list.proofs.closing.close.Goals as goal
 
@@ -18,31 +18,22 @@ returns-in_err-checked c =
     rw (p.1, p.2) (ap (λ (e : Refused). no_change (number e.refusal) e.model) c.in_err-checked.ensures.err.1 ∙ sym (close_unsound c.args.m c.args.row.0 c.in_err-checked.ensures.err.0))
 
 pub find_region-requires-clause-laid : goal.find_region-requires-clause-laid
-find_region-requires-clause-laid c = sound_laid c.args.m (sound_of c.args.m (checked_sound c.args.m c.in_ok-checked.checked c.in_ok-checked.ensures.ok))
+find_region-requires-clause-laid c = checked_laid c.args.m c.in_ok-checked.checked c.in_ok-checked.ensures.ok
 
 pub find_region-requires-clause-tiled : goal.find_region-requires-clause-tiled
-find_region-requires-clause-tiled c = sound_tiled c.args.m (sound_of c.args.m (checked_sound c.args.m c.in_ok-checked.checked c.in_ok-checked.ensures.ok))
+find_region-requires-clause-tiled c = checked_tiled c.args.m c.in_ok-checked.checked c.in_ok-checked.ensures.ok
 
 pub returns-in_default : goal.returns-in_default
 returns-in_default c =
-    let m = c.args.m in
-    let r = c.args.row.0 in
-    let s = checked_sound m c.in_ok-checked.checked c.in_ok-checked.ensures.ok in
+    let s = checked_sound c.args.m c.in_ok-checked.checked c.in_ok-checked.ensures.ok in
     ap (λ (e : Refused). no_change (number e.refusal) e.model) c.refused.ensures
-    ∙ sym (close_past m r s (row_none m (sound_of m s) r (sym c.find_region.ensures ∙ c.in_default.is)))
+    ∙ sym (close_past c.args.m c.args.row.0 s (row_none c.args.m (sound_of c.args.m s) c.args.row.0 (sym c.find_region.ensures ∙ c.in_default.is)))
 
 pub returns-in_default-open_child_of : goal.returns-in_default-open_child_of
 returns-in_default-open_child_of c =
-    let m = c.args.m in
-    let r = c.args.row.0 in
-    let s = checked_sound m c.in_ok-checked.checked c.in_ok-checked.ensures.ok in
-    let h = sym c.find_region.ensures ∙ c.in-Some.is in
-    let x = c.row_at-parent in
-    let d = checked_parent m c.in_ok-checked.checked c.in_ok-checked.ensures.ok r x.result.0 x.ensures.parent in
-    let i = checked_index m c.in_ok-checked.checked c.in_ok-checked.ensures.ok r x.result.1 x.ensures.index in
     c.unchanged.ensures
-    ∙ sym (close_none m _ (sym c.in_default-open_child_of.is ∙ c.open_child_of.ensures))
-    ∙ close_answer m r x.result.0 x.result.1 d i s (found_inside m (sound_of m s) r _ h)
+    ∙ sym (close_none c.args.m _ (sym c.in_default-open_child_of.is ∙ c.open_child_of.ensures))
+    ∙ close_answer c.args.m c.args.row.0 c.row_at-parent.result.0 c.row_at-parent.result.1 (row_found c.args.m c.in_ok-checked.checked c.in_ok-checked.ensures.ok c.args.row.0 c.in-Some.place (sym c.find_region.ensures ∙ c.in-Some.is) c.row_at-parent.result.0 c.row_at-parent.result.1 c.row_at-parent.ensures.parent c.row_at-parent.ensures.index)
 
 pub close_all-requires-clause-node_nonzero : goal.close_all-requires-clause-node_nonzero
 close_all-requires-clause-node_nonzero c = (open_child_opens c.args.m _ _ _ (sym c.in-Some-open_child_of.is ∙ c.open_child_of.ensures)).0
@@ -53,14 +44,7 @@ close_all-requires-clause-opens c =
 
 pub returns : goal.returns
 returns c =
-    let m = c.args.m in
-    let r = c.args.row.0 in
-    let s = checked_sound m c.in_ok-checked.checked c.in_ok-checked.ensures.ok in
-    let h = sym c.find_region.ensures ∙ c.in-Some.is in
-    let x = c.row_at-parent in
-    let d = checked_parent m c.in_ok-checked.checked c.in_ok-checked.ensures.ok r x.result.0 x.ensures.parent in
-    let i = checked_index m c.in_ok-checked.checked c.in_ok-checked.ensures.ok r x.result.1 x.ensures.index in
     c.close_all.ensures
     ∙ ap (λ (q : Model). close_node q c.in-Some-open_child_of.node) c.in_ok-checked.ensures.ok
-    ∙ ap (close_node m) (some_is _ c.in-Some-open_child_of.node (sym c.in-Some-open_child_of.is ∙ c.open_child_of.ensures)).0
-    ∙ close_answer m r x.result.0 x.result.1 d i s (found_inside m (sound_of m s) r _ h)
+    ∙ ap (close_node c.args.m) (some_is _ c.in-Some-open_child_of.node (sym c.in-Some-open_child_of.is ∙ c.open_child_of.ensures)).0
+    ∙ close_answer c.args.m c.args.row.0 c.row_at-parent.result.0 c.row_at-parent.result.1 (row_found c.args.m c.in_ok-checked.checked c.in_ok-checked.ensures.ok c.args.row.0 c.in-Some.place (sym c.find_region.ensures ∙ c.in-Some.is) c.row_at-parent.result.0 c.row_at-parent.result.1 c.row_at-parent.ensures.parent c.row_at-parent.ensures.index)
