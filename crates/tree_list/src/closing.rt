@@ -12,10 +12,10 @@ use crate::rows::row_at;
 use model::{Changed, Kind, Log, Model, Record, Refusal, Refused, RowNumber};
 
 // One record more, for which there is room, as `log_also` asks: so many rows go from below a row.
-fn log_closing(log: Log, row: RowNumber, count: u64) -> Log
-    requires len_bound { log.len < 512 }
+fn log_closing(log: &mut Log, row: RowNumber, count: u64)
+    requires len_bound { log.old.len < 512 }
     requires row_bound { suc row.0 < 2 ^ 64 }
-    ensures { result ≡ logged log (rows_change (suc row.0) count 0) }
+    ensures { log.new ≡ logged log.old (rows_change (suc row.0) count 0) }
 {
     let change = Record {
         kind: Kind::Rows,
@@ -23,7 +23,7 @@ fn log_closing(log: Log, row: RowNumber, count: u64) -> Log
         removed: count,
         added: 0,
     };
-    log_also(log, change)
+    log_also(log, change);
 }
 
 // An open node is closed, after those that are open below it.
@@ -38,7 +38,7 @@ fn close_all(m: SoundModel, node: u64) -> Changed
     for &k in order.as_slice() {
         // earlier closings may have moved its row; its count is as it was
         let row = totals::row_of(q, k);
-        log = log_closing(log, row, m.model.nodes[k as usize].direct);
+        log_closing(&mut log, row, m.model.nodes[k as usize].direct);
         q = edits::close_node(q, k);
     }
     Changed { model: q, log }

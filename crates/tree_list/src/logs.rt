@@ -32,12 +32,10 @@ pub fn log_of_one(change: Record) -> Log
 }
 
 // One record more, for which there is room: a full log is a log too, so it is asked here and no invariant.
-pub fn log_also(log: Log, change: Record) -> Log
-    requires { log.len < 512 }
-    ensures { result ≡ logged log change }
+pub fn log_also(log: &mut Log, change: Record)
+    requires { log.old.len < 512 }
+    ensures { log.new ≡ logged log.old change }
 {
-    let mut q = log;
-    q.records[q.len as usize] = change;
-    q.len += 1;
-    q
+    log.records[log.len as usize] = change;
+    log.len += 1;
 }

@@ -19,87 +19,84 @@ use model::{Changed, Kind, Log, Model, Record, Step, Updated};
 
 // The text of a node's row changed. Between two steps the model stands in a `Changed`, so that its soundness is a clause
 // here: `Texted` and `Grown` say it together with what the step needs. Room in the log is asked as `log_also` asks it.
-fn log_text(m: Model, log: Log, k: u64) -> Log
+// The steps write to the model and the log where they lie: by value, each would copy both several times over.
+fn log_text(m: Model, log: &mut Log, k: u64)
     requires sound { Sound m }
     requires used { Used m.nodes k }
     requires k_nonzero { 0 < k }
-    requires len_bound { log.len < 512 }
-    ensures { result ≡ logged log (text_change (row_of m.nodes k)) }
+    requires len_bound { log.old.len < 512 }
+    ensures { log.new ≡ logged log.old (text_change (row_of m.nodes k)) }
 {
+    let row = totals::row_of(m, k);
     log_also(
         log,
         Record {
             kind: Kind::Text,
-            position: totals::row_of(m, k).0,
+            position: row.0,
             removed: 0,
             added: 0,
         },
-    )
+    );
 }
 
 // A row's text is due if children were added, or else if the version differs, which is recorded then.
-fn text_step(table: &[u64], p: Changed, k: u64) -> Changed
-    requires { Texted table.now p k }
-    ensures { Does table.now p (Text k) result }
+fn text_step(table: &[u64], p: &mut Changed, k: u64)
+    requires { Texted table.now p.old k }
+    ensures { Does table.now p.old (Text k) p.new }
 {
     if k == 0 {
-        return p;
+        return;
     }
     let n = p.model.nodes[k as usize];
     if n.direct < item_count(table, n.entry) {
-        return Changed {
-            log: log_text(p.model, p.log, k),
-            ..p
-        };
+        log_text(p.model, &mut p.log, k);
+        return;
     }
     let version = item_version(table, n.entry);
     if n.version == version {
-        return p;
+        return;
     }
-    Changed {
-        model: edits::set_version(p.model, k, version),
-        log: log_text(p.model, p.log, k),
-    }
+    log_text(p.model, &mut p.log, k);
+    p.model = edits::set_version(p.model, k, version);
 }
 
 // The rows that an open node has more come after its last one.
-fn log_rows(m: Model, log: Log, k: u64, count: u64) -> Log
+fn log_rows(m: Model, log: &mut Log, k: u64, count: u64)
     requires sound { Sound m }
     requires used { Used m.nodes k }
-    requires len_bound { log.len < 512 }
-    ensures { result ≡ logged_when ((node_at m.nodes k).«open» && ltb 0 (count - (node_at m.nodes k).direct)) log (rows_change (end_of m.nodes k) 0 (count - (node_at m.nodes k).direct)) }
+    requires len_bound { log.old.len < 512 }
+    ensures { log.new ≡ logged_when ((node_at m.nodes k).«open» && ltb 0 (count - (node_at m.nodes k).direct)) log.old (rows_change (end_of m.nodes k) 0 (count - (node_at m.nodes k).direct)) }
 {
     let n = m.nodes[k as usize];
     if !n.open || count <= n.direct {
-        return log;
+        return;
     }
+    let end = edits::end_of(m, k);
     log_also(
         log,
         Record {
             kind: Kind::Rows,
-            position: edits::end_of(m, k).0,
+            position: end.0,
             removed: 0,
             added: count - n.direct,
         },
-    )
+    );
 }
 
-fn growth_step(table: &[u64], p: Changed, k: u64) -> Changed
-    requires { Grown table.now p k }
-    ensures { Does table.now p (Grow k) result }
+fn growth_step(table: &[u64], p: &mut Changed, k: u64)
+    requires { Grown table.now p.old k }
+    ensures { Does table.now p.old (Grow k) p.new }
 {
     let entry = p.model.nodes[k as usize].entry;
     let count = item_count(table, entry);
     let ongoing = item_ongoing(table, entry);
-    Changed {
-        model: edits::grow_step(p.model, k, count, ongoing),
-        log: log_rows(p.model, p.log, k, count),
-    }
+    log_rows(p.model, &mut p.log, k, count);
+    p.model = edits::grow_step(p.model, k, count, ongoing);
 }
 
-fn visit_step(table: &[u64], p: Changed, step: Step) -> Changed
-    requires { Stepping table.now p step }
-    ensures { Does table.now p step result }
+fn visit_step(table: &[u64], p: &mut Changed, step: Step)
+    requires { Stepping table.now p.old step }
+    ensures { Does table.now p.old step p.new }
 {
     match step {
         Step::Text(k) => text_step(table, p, k),
@@ -119,7 +116,7 @@ pub fn run_visits(table: &[u64], m: SoundModel, steps: &[Step]) -> Updated
         log: no_log(),
     };
     for step in steps {
-        p = visit_step(table, p, *step);
+        visit_step(table, &mut p, *step);
     }
     Updated {
         model: p.model,

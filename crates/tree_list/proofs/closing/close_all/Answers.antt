@@ -30,13 +30,13 @@ bounds-m-k c =
     let l = c.loop-k in
     turn_small c.args.m.model c.args.m.sound c.args.node c.requires.node_nonzero c.requires.opens c.as_slice-k-items.result.now (c.as_slice-k-items.ensures.value ∙ c.closing_order-order.ensures) l.k-index l.q l.log l.invariant c.loop-k-test.true
 
-pub log_closing-log-requires-clause-len_bound : goal.log_closing-log-requires-clause-len_bound
-log_closing-log-requires-clause-len_bound c =
+pub log_closing-requires-clause-len_bound : goal.log_closing-requires-clause-len_bound
+log_closing-requires-clause-len_bound c =
     let l = c.loop-k in
     (turn_asks c.args.m.model c.args.m.sound c.args.node c.requires.node_nonzero c.requires.opens c.as_slice-k-items.result.now (c.as_slice-k-items.ensures.value ∙ c.closing_order-order.ensures) l.k-index l.q l.log l.invariant c.loop-k-test.true c.row_of-row.result c.row_of-row.ensures).0
 
-pub log_closing-log-requires-clause-row_bound : goal.log_closing-log-requires-clause-row_bound
-log_closing-log-requires-clause-row_bound c =
+pub log_closing-requires-clause-row_bound : goal.log_closing-requires-clause-row_bound
+log_closing-requires-clause-row_bound c =
     let l = c.loop-k in
     (turn_asks c.args.m.model c.args.m.sound c.args.node c.requires.node_nonzero c.requires.opens c.as_slice-k-items.result.now (c.as_slice-k-items.ensures.value ∙ c.closing_order-order.ensures) l.k-index l.q l.log l.invariant c.loop-k-test.true c.row_of-row.result c.row_of-row.ensures).1
 
@@ -49,7 +49,7 @@ pub loop-k-preserved : goal.loop-k-preserved
 loop-k-preserved c =
     let l = c.loop-k in
     turn_closed c.args.m.model c.args.m.sound c.args.node c.requires.node_nonzero c.requires.opens c.as_slice-k-items.result.now (c.as_slice-k-items.ensures.value ∙ c.closing_order-order.ensures) l.k-index l.q l.log l.invariant c.loop-k-test.true
-    c.row_of-row.result c.close_node-q.result c.log_closing-log.result c.row_of-row.ensures c.close_node-q.ensures c.log_closing-log.ensures
+    c.row_of-row.result c.close_node-q.result _ c.row_of-row.ensures c.close_node-q.ensures c.log_closing.ensures
 
 pub returns : goal.returns
 returns c =

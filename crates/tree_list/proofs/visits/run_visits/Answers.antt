@@ -7,8 +7,8 @@ loop-step-init c =
     let m = c.args.m in
     run_starts c.args.table.now m.model (sound_of m.model m.sound) c.args.steps.now c.requires.steps_value c.requires.nodes_value c.no_log.result c.no_log.ensures
 
-pub visit_step-p-requires : goal.visit_step-p-requires
-visit_step-p-requires c =
+pub visit_step-requires : goal.visit_step-requires
+visit_step-requires c =
     let m = c.args.m in
     let l = c.loop-step in
     run_ready c.args.table.now m.model (sound_of m.model m.sound) c.args.steps.now c.requires.steps_value l.p l.step-index l.invariant c.loop-step-test.true c.requires.nodes_bound
@@ -17,7 +17,7 @@ pub loop-step-preserved : goal.loop-step-preserved
 loop-step-preserved c =
     let m = c.args.m in
     let l = c.loop-step in
-    run_goes c.args.table.now m.model (sound_of m.model m.sound) c.args.steps.now c.requires.steps_value l.p l.step-index l.invariant c.loop-step-test.true c.visit_step-p.result c.visit_step-p.ensures
+    run_goes c.args.table.now m.model (sound_of m.model m.sound) c.args.steps.now c.requires.steps_value l.p l.step-index l.invariant c.loop-step-test.true _ c.visit_step.ensures
 
 pub returns : goal.returns
 returns c =
