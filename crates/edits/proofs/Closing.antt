@@ -165,9 +165,9 @@ module _ (m : Model) (S : Sound m) where
   closable_used k C = open_used m.nodes k C.opens
 
   -- a model with the same nodes lets the totals be lowered
-  pub totals_ask : (k : ℕ) → Closable m.nodes k → (rest : Model) (gs : List Region) → rest ≡ laid m gs → AllMovable false (direct_of m.nodes k) rest.nodes k
+  pub totals_ask : (k : ℕ) → Closable m.nodes k → (rest : Model) (gs : List Region) → rest ≡ laid m gs → WellFormed rest.nodes × (Used rest.nodes k × AllMovable false (direct_of m.nodes k) rest.nodes k)
   totals_ask zero C rest gs e = absurd (omega (arith, C.above))
-  totals_ask (suc k) C rest gs e = rw e (many_above m S k C.opens C.none)
+  totals_ask (suc k) C rest gs e = rw e (S.well, (closable_used (suc k) C, many_above m S k C.opens C.none))
 
   pub published_asks : (k : ℕ) → Closable m.nodes k → direct_of m.nodes k ≤ m.published
   published_asks zero C = absurd (omega (arith, C.above))

@@ -21,7 +21,7 @@ use Rattle.runs.specs.Changes.{expanded}
 use Rattle.runs.specs.Laid.{live, laid, Laid}
 use Rattle.runs.proofs.Rows.{settle_laid, expand_runs}
 use Rattle.runs.proofs.Search.{at_holds}
-use Rattle.tree.specs.WellFormed.{Opens, up, WellFormed}
+use Rattle.tree.specs.WellFormed.{Used, Opens, up, WellFormed}
 use Rattle.tree.specs.Paths.{Over}
 use Rattle.tree.proofs.WellFormed.{open_used, zero_open}
 use Rattle.steps.specs.Changes.{Put}
@@ -117,11 +117,11 @@ module _ (m : Model) (place r : ℕ) (n : Node) where
   not_zero : Openable m place r 0 n → ⊥
   not_zero O = differ (zero_open m.nodes O.whole.well) O.was
 
-  pub update_asks : (k : ℕ) (x : Node) → Openable m place r k n → x ≡ with_open true n → let ns = set m.nodes k x in WellFormed ns × AllMovable true n.direct ns k
+  pub update_asks : (k : ℕ) (x : Node) → Openable m place r k n → x ≡ with_open true n → let ns = set m.nodes k x in WellFormed ns × (Used ns k × AllMovable true n.direct ns k)
   update_asks zero x O e = absurd (not_zero O)
   update_asks (suc k) x O e =
       let w = O.whole.well in
-      rw e (put_well m.nodes w (suc k) (with_open true n) O.put, movable m place r k n O)
+      rw e (put_well m.nodes w (suc k) (with_open true n) O.put, (put_used m.nodes w (suc k) (with_open true n) O.put, movable m place r k n O))
 
   pub published_fits : (k : ℕ) → Openable m place r k n → m.published + n.direct < 2 ^ 64
   published_fits k O = omega (arith, (sound_given m O.whole).published, O.room)

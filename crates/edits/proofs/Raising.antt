@@ -168,8 +168,8 @@ module _ (ns : List Node) (k count : ℕ) (R : Raisable ns k count) where
           ap (λ (n : Node). n.total) (kept j (λ a. v (over_same stored ns same_up j k (above_over stored stored_well k stored_open j a))) ∙ stored_other j d ∙ sym (put_other ns w k grown grown_own j d))
 
   -- what the climb asks, where the node stored is a value that equals it
-  pub raise_requires : (n : Node) → n ≡ grown_node count (node_at ns k) → WellFormed (set ns k n) × AllMovable true more (set ns k n) k
-  raise_requires n e = rw e (stored_well, stored_movable)
+  pub raise_requires : (n : Node) → n ≡ grown_node count (node_at ns k) → WellFormed (set ns k n) × (Used (set ns k n) k × AllMovable true more (set ns k n) k)
+  raise_requires n e = rw e (stored_well, (stored_used, stored_movable))
 
   -- the grown node's number is a place, and a climb from a value that equals the node stored raises the totals
   pub raise_small : k < 256

@@ -6,7 +6,7 @@ use Rattle.edits.proofs.closed.close_node.Goals as goal
 pub update_total-moved-requires-clause-all_movable :
     goal.update_total-moved-requires-clause-all_movable
 update_total-moved-requires-clause-all_movable c =
-    totals_ask c.args.m c.requires.sound c.args.node c.requires.closable c.remove_children-rest.result _ c.remove_children-rest.ensures
+    (totals_ask c.args.m c.requires.sound c.args.node c.requires.closable c.remove_children-rest.result _ c.remove_children-rest.ensures).1.1
 
 pub overflow_sub-q : goal.overflow_sub-q
 overflow_sub-q c =

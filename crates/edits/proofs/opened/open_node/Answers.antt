@@ -8,7 +8,7 @@ pub update_total-raised-requires-clause-well_formed : goal.update_total-raised-r
 update_total-raised-requires-clause-well_formed c = (update_asks c.args.m c.args.place c.args.row.0 c.args.n c.args.node c.opened.result c.requires c.opened.ensures).0
 
 pub update_total-raised-requires-clause-all_movable : goal.update_total-raised-requires-clause-all_movable
-update_total-raised-requires-clause-all_movable c = (update_asks c.args.m c.args.place c.args.row.0 c.args.n c.args.node c.opened.result c.requires c.opened.ensures).1
+update_total-raised-requires-clause-all_movable c = (update_asks c.args.m c.args.place c.args.row.0 c.args.n c.args.node c.opened.result c.requires c.opened.ensures).1.1
 
 pub expand-q-requires : goal.expand-q-requires
 expand-q-requires c =
