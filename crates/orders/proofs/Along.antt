@@ -1,5 +1,5 @@
 -- A loop along the children of a node: what is pushed, and what is still to come.
-use Prim.Native.Nat.{ℕ, zero, suc, ◌+◌, ◌-◌, ◌≤◌}
+use Prim.Native.Nat.{ℕ, zero, suc, ◌+◌, ◌-◌, ◌<◌, ◌≤◌}
 use native.Mathlib.Omega.{arith}
 use mathlib.Core.Logic.{◌≢◌}
 use mathlib.Core.Path.{◌≡◌, refl, ap, sym, ◌∙◌}
@@ -66,3 +66,7 @@ module _ (ns : List Node) (k : ℕ) where
   pub followed_some : (a : ℕ) → is_open (node_at ns k) ≡ true → followed_visits ns a k ≡ flat_map (visit ns a) (children is_ongoing ns k)
   unfolding followed_visits
   followed_some a e = rw e
+
+-- the index after one that is below a count
+pub next_fits : (x n l : ℕ) → x < n → n < l → x + 1 < l
+next_fits x n l h k = omega arith

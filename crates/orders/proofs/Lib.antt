@@ -4,3 +4,4 @@ pub mod Children
 pub mod Distinct
 pub mod NextChild
 pub mod Orders
+pub mod Room

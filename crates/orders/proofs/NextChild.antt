@@ -40,6 +40,9 @@ pub record Search (q : Node → Bool) (ns : List Node) (p low limit : ℕ) (best
   pub within : bound ≤ limit
 
 module _ (q : Node → Bool) (ns : List Node) (p low limit : ℕ) where
+  pub search_begins : Search q ns p low limit None limit 1
+  search_begins = record { best_is = refl; bounded = λ j a b. absurd (omega arith); within = omega arith }
+
   module _ (best : Option ℕ) (bound k : ℕ) (g : Search q ns p low limit best bound k) where
     -- node k is a better one, or not
     pub search_better : 1 ≤ k → IsChild q ns p k → low ≤ (node_at ns k).index → (node_at ns k).index < bound → Search q ns p low limit (Some k) (node_at ns k).index (k + 1)
@@ -106,3 +109,7 @@ module _ (q : Node → Bool) (ns : List Node) (p low limit : ℕ) where
             (child_hit x b t.above (omega arith) t.child refl (λ i c d v. rw (sym t.index) at (t.first i c d v))) (omega (arith, t.above))
             (λ y c d. child_miss y (λ j i l v z. absurd (omega (arith, t.index, g.bounded j i (omega arith) v (omega arith))))));
       }
+
+  -- no index is from low on and below limit
+  pub search_empty : limit ≤ low → FirstIs q ns p low limit None
+  search_empty h = children_none q ns p low (limit - low) (λ x a b. absurd (omega arith))

@@ -1,7 +1,7 @@
 // The order of the steps that closing and updating take.
 //
 // The recursions, with an allowance that falls at each level, read the lent nodes and push onto a lent
-// vector, so that a level takes little of the stack; the model by value stays outside them.
+// order, so that a level takes little of the stack; the model by value stays outside them.
 //
 // Both public functions take any `Model`, with clauses for what holds of it: docs/PROMISES.md names them. A node's number
 // is plain, as in `model::Node`, and asked to be below 256 where it is read.
@@ -13,10 +13,13 @@ ghost use Rattle.model.specs.Places.{depth};
 ghost use Rattle.model.specs.Close.{closing_order};
 ghost use Rattle.model.specs.Update.{visit, visits as all_visits};
 ghost use Rattle.tree.specs.WellFormed.{WellFormed, Opens};
+ghost use Rattle.orders.specs.Order.{items, Holds};
 ghost use Rattle.orders.specs.Orders.{followed_visits, FirstIs};
 
-use arrayvec::ArrayVec;
+mod order;
+
 use model::{Model, Node, Step};
+pub use order::Order;
 
 // The child of `node` that passes the test and has the least index, from `low` on and below `limit`.
 fn next_child<F: Fn(&Node) -> bool>(
@@ -43,9 +46,9 @@ fn next_child<F: Fn(&Node) -> bool>(
 }
 
 // Closing: pushes the nodes below `node`, inner ones first, and then `node`.
-fn close_order(nodes: &[Node; 256], node: usize, out: &mut ArrayVec<u64, 512>, allowance: usize)
-    requires { (node < 256) × (length out.old.items + length (closing_order nodes.now allowance node) ≤ 512) }
-    ensures { out.new.items ≡ out.old.items ++ closing_order nodes.now allowance node }
+fn close_order(nodes: &[Node; 256], node: usize, out: &mut Order<u64>, allowance: usize)
+    requires { (node < 256) × (out.old.len ≤ 512) × (length (items out.old) + length (closing_order nodes.now allowance node) ≤ 512) }
+    ensures { Holds out.new (items out.old ++ closing_order nodes.now allowance node) }
 {
     if allowance == 0 {
         return;
@@ -62,9 +65,9 @@ fn close_order(nodes: &[Node; 256], node: usize, out: &mut ArrayVec<u64, 512>, a
 // Updating: pushes the visit of `node`, which is its text step, the visits of its followed children
 // and its growth step.
 #[cycle(visit_walk)]
-fn visit(nodes: &[Node; 256], node: usize, out: &mut ArrayVec<Step, 512>, allowance: usize)
-    requires { (node < 256) × (length out.old.items + length (visit nodes.now allowance node) ≤ 512) }
-    ensures { out.new.items ≡ out.old.items ++ visit nodes.now allowance node }
+fn visit(nodes: &[Node; 256], node: usize, out: &mut Order<Step>, allowance: usize)
+    requires { (node < 256) × (out.old.len ≤ 512) × (length (items out.old) + length (visit nodes.now allowance node) ≤ 512) }
+    ensures { Holds out.new (items out.old ++ visit nodes.now allowance node) }
 {
     if allowance == 0 {
         return;
@@ -76,9 +79,9 @@ fn visit(nodes: &[Node; 256], node: usize, out: &mut ArrayVec<Step, 512>, allowa
 
 // Pushes the visits of the followed children of `node`, in ascending index: a closed node has none.
 #[cycle(visit_walk)]
-fn walk(nodes: &[Node; 256], node: usize, out: &mut ArrayVec<Step, 512>, allowance: usize)
-    requires { (node < 256) × (length out.old.items + length (followed_visits nodes.now allowance node) ≤ 512) }
-    ensures { out.new.items ≡ out.old.items ++ followed_visits nodes.now allowance node }
+fn walk(nodes: &[Node; 256], node: usize, out: &mut Order<Step>, allowance: usize)
+    requires { (node < 256) × (out.old.len ≤ 512) × (length (items out.old) + length (followed_visits nodes.now allowance node) ≤ 512) }
+    ensures { Holds out.new (items out.old ++ followed_visits nodes.now allowance node) }
 {
     if !nodes[node].open {
         return;
@@ -92,22 +95,22 @@ fn walk(nodes: &[Node; 256], node: usize, out: &mut ArrayVec<Step, 512>, allowan
 }
 
 // The nodes that closing the open node `k` closes, in the order in which it does.
-pub fn closing_order(m: Model, k: usize) -> ArrayVec<u64, 512>
+pub fn closing_order(m: Model, k: usize) -> Order<u64>
     requires { WellFormed m.nodes × (0 < k) × Opens m.nodes k }
-    ensures { result.items ≡ closing_order m.nodes depth k }
+    ensures { Holds result (closing_order m.nodes depth k) }
 {
-    let mut order = ArrayVec::new();
+    let mut order = Order::new();
     // rows are nested at most 255 deep
     close_order(&m.nodes, k, &mut order, 255);
     order
 }
 
 // The steps of an update, as the nodes stand at its start.
-pub fn visits(m: Model) -> ArrayVec<Step, 512>
+pub fn visits(m: Model) -> Order<Step>
     requires { WellFormed m.nodes }
-    ensures { result.items ≡ all_visits m.nodes }
+    ensures { Holds result (all_visits m.nodes) }
 {
-    let mut steps = ArrayVec::new();
+    let mut steps = Order::new();
     // the capture, and rows nested at most 255 deep
     visit(&m.nodes, 0, &mut steps, 256);
     steps

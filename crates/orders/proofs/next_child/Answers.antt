@@ -1,9 +1,14 @@
 use Rattle.std.proofs.Common.{arith, refl, sym, ◌∙◌}
 use Rattle.std.proofs.lemmas.Fn.{says_at}
 use Rattle.std.proofs.lemmas.Bool.{false≢true}
-use Rattle.orders.proofs.NextChild.{search_better, search_passes, search_ends}
+use Rattle.orders.proofs.NextChild.{search_begins, search_better, search_passes, search_ends}
 use Rattle.orders.proofs.next_child.Goals as goal
 use Rattle.orders.proofs.next_child.Goals.{then-test+then-n-node+then-low-n+then-n-bound, else-test, else-test-via-then-test+then-n-node+then-low-n+else-n-bound, else-test-via-then-test+then-n-node+else-low-n, else-test-via-then-test+else-n-node, else-test-via-else-test}
+
+pub loop-k-init : goal.loop-k-init
+loop-k-init g c = λ q tests.
+    let x = c.args in
+    search_begins q x.nodes.now x.node x.low x.limit
 
 pub loop-k-preserved : goal.loop-k-preserved
 loop-k-preserved g c = λ q tests.

@@ -29,7 +29,7 @@ pub any_went_back-requires : goal.any_went_back-requires
 any_went_back-requires c =
     let m = c.in_ok-checked.checked in
     let steps = c.as_slice-steps in
-    visits_inside m.model m.sound steps.result.now (steps.ensures.value ∙ c.visits-order.ensures)
+    visits_inside m.model m.sound steps.result.now (steps.ensures ∙ c.visits-order.ensures.exact)
 
 pub returns-then-any_went_back : goal.returns-then-any_went_back
 returns-then-any_went_back c =
@@ -37,7 +37,7 @@ returns-then-any_went_back c =
     let same = c.in_ok-checked.ensures.ok in
     let steps = c.as_slice-steps in
     rw (c.refused.ensures, ← same)
-    (sym (update_back c.args.table.now m.model m.sound c.in_ok-check_table.ensures.ok steps.result.now (steps.ensures.value ∙ c.visits-order.ensures) (sym c.any_went_back.ensures ∙ c.if-any_went_back.true)))
+    (sym (update_back c.args.table.now m.model m.sound c.in_ok-check_table.ensures.ok steps.result.now (steps.ensures ∙ c.visits-order.ensures.exact) (sym c.any_went_back.ensures ∙ c.if-any_went_back.true)))
 
 pub returns-then-passes_limit : goal.returns-then-passes_limit
 returns-then-passes_limit c =
@@ -45,12 +45,12 @@ returns-then-passes_limit c =
     let same = c.in_ok-checked.ensures.ok in
     let steps = c.as_slice-steps in
     rw (c.refused-then-passes_limit.ensures, ← same)
-    (sym (update_limit c.args.table.now m.model m.sound c.in_ok-check_table.ensures.ok steps.result.now (steps.ensures.value ∙ c.visits-order.ensures) (sym c.any_went_back.ensures ∙ c.if-any_went_back.false) (sym c.passes_limit.ensures ∙ c.if-passes_limit.true)))
+    (sym (update_limit c.args.table.now m.model m.sound c.in_ok-check_table.ensures.ok steps.result.now (steps.ensures ∙ c.visits-order.ensures.exact) (sym c.any_went_back.ensures ∙ c.if-any_went_back.false) (sym c.passes_limit.ensures ∙ c.if-passes_limit.true)))
 
 pub returns : goal.returns
 returns c =
     let m = c.in_ok-checked.checked in
     let steps = c.as_slice-steps in
     c.run_visits.ensures
-    ∙ sym (update_done c.args.table.now m.model m.sound c.in_ok-check_table.ensures.ok steps.result.now (steps.ensures.value ∙ c.visits-order.ensures) (sym c.any_went_back.ensures ∙ c.if-any_went_back.false))
+    ∙ sym (update_done c.args.table.now m.model m.sound c.in_ok-check_table.ensures.ok steps.result.now (steps.ensures ∙ c.visits-order.ensures.exact) (sym c.any_went_back.ensures ∙ c.if-any_went_back.false))
     ∙ ap (answer_update c.args.table.now) c.in_ok-checked.ensures.ok
