@@ -1,19 +1,68 @@
 -- Edits of a list, for any element type: a part mapped, an element put in, one taken out; and the same in a list laid into places.
 use Prim.Native.Nat.{ℕ, zero, suc, ◌+◌, ◌-◌, ◌≤◌, ◌<◌}
+use native.Mathlib.Nat.{zero-add, suc-add}
 use native.Mathlib.Numerals.{add-one}
 use native.Mathlib.Omega.{arith}
 use mathlib.Core.Path.{◌≡◌, refl, ap, sym, subst, ◌∙◌}
 use mathlib.Core.List.{List, [], ◌∷◌, ◌++◌, map, append_assoc}
-use lib.ListN.{length, take, drop, get_or, set, replicate, get_or-append, length-drop, length-append, length-map, length-set, length-replicate}
-use lib.Seq.{length-take-le, take-suc, append_snoc, set_at, take-append-add, take-append-le, drop-append-le, drop_at, take_at, drop-cons, set-append_left}
+use lib.ListN.{length, take, drop, get_or, set, replicate, get_or-append, take-append-drop, length-drop, length-append, length-map, length-set, length-replicate}
+use lib.Seq.{length-take-le, get_or-drop, get_or-append-add, take-suc, append_snoc, set_at, take-append-add, take-append-le, drop-append-le, drop_at, take_at, drop-cons, set-append_left}
 use Rattle.std.specs.List.{copy_within}
 use Rattle.model.specs.Places.{pad}
 use Rattle.runs.specs.Edits.{map_from, insert_at, remove_at, insert, remove}
 
 module _ {A : Type 0} where
-  -- the k elements from the place j on changed by f
+  -- the elements before a place stay, where one at or after it is set or read
+  set_after : (p q : List A) (n k : ℕ) (v : A) → length p ≡ n → set (p ++ q) (n + k) v ≡ p ++ set q k v
+  set_after p q n k v e = subst (λ (m : ℕ). set (p ++ q) (m + k) v ≡ p ++ set q k v) e (go p) where
+    go : (p : List A) → set (p ++ q) (length p + k) v ≡ p ++ set q k v
+    go [] = rw zero-add
+    go (x ∷ p) = rw suc-add (ap (λ (t : List A). x ∷ t) (go p))
+
+  get_d_after : (p q : List A) (n k : ℕ) (d : A) → length p ≡ n → get_or (p ++ q) (n + k) d ≡ get_or q k d
+  get_d_after p q n k d e = subst (λ (m : ℕ). get_or (p ++ q) (m + k) d ≡ get_or q k d) e (get_or-append-add p q k d)
+
+  -- the k elements from the place j on changed by f: what a loop that maps from j on has done so far
   abbrev pub map_part : (A → A) → ℕ → ℕ → List A → List A
   map_part f j k l = take j l ++ (map f (take k (drop j l)) ++ drop k (drop j l))
+
+  module _ (f : A → A) (d : A) where
+    front_more : (l : List A) (k : ℕ) → k < length l → set (map f (take k l) ++ drop k l) k (f (get_or l k d)) ≡ map f (take (suc k) l) ++ drop (suc k) l
+    front_more [] k lt = absurd (omega arith)
+    front_more (x ∷ xs) zero lt = refl
+    front_more (x ∷ xs) (suc k) lt = ap (λ (t : List A). f x ∷ t) (front_more xs k (omega arith))
+
+    front_at : (l : List A) (k : ℕ) → k < length l → get_or (map f (take k l) ++ drop k l) k d ≡ get_or l k d
+    front_at [] k lt = absurd (omega arith)
+    front_at (x ∷ xs) zero lt = refl
+    front_at (x ∷ xs) (suc k) lt = front_at xs k (omega arith)
+
+    module _ (l : List A) (j : ℕ) where
+      pub part_none : map_part f j (j - j) l ≡ l
+      part_none = let e : j - j ≡ 0 = omega arith in rw e (take-append-drop j l)
+
+      module _ (i : ℕ) (le : j ≤ i) (lt : i < length l) where
+        before : j + (i - j) ≡ i
+        before = omega arith
+
+        within : i - j < length (drop j l)
+        within = simp length-drop (omega arith)
+
+        long : length (take j l) ≡ j
+        long = length-take-le j l (omega arith)
+
+        pub part_at : get_or (map_part f j (i - j) l) i d ≡ get_or l i d
+        part_at =
+            subst (λ (n : ℕ). get_or (map_part f j (i - j) l) n d ≡ get_or l n d) before
+            (get_d_after (take j l) _ j (i - j) d long ∙ front_at (drop j l) (i - j) within ∙ get_or-drop j l (i - j) d)
+
+        pub part_more : set (map_part f j (i - j) l) i (f (get_or l i d)) ≡ map_part f j (i + 1 - j) l
+        part_more =
+            let more : i + 1 - j ≡ suc (i - j) = omega arith in
+            rw more
+            (subst (λ (n : ℕ). set (map_part f j (i - j) l) n (f (get_or l n d)) ≡ map_part f j (suc (i - j)) l) before
+            (rw (← get_or-drop)
+            (set_after (take j l) _ j (i - j) _ long ∙ ap (λ (t : List A). take j l ++ t) (front_more (drop j l) (i - j) within))))
 
   -- room made for an element at the place j, by moving those of j to c up by one, and the element put there
   put_open : (l : List A) (j c : ℕ) (x d : A) → j ≤ c → c < length l

@@ -202,6 +202,9 @@ module _ (ns : List Node) (w : WellFormed ns) (gs : List Region) (size : length 
       facts : (g.start ≡ s) × (g.node ≡ p) × (g.offset ≡ i) × (0 < g.length) × (g.length ≤ direct_of ns p - i)
       facts = begins_parts g s p i 0 (direct_of ns p - i) b
 
+      pub course_length : (0 < (region_at gs j).length) × ((region_at gs j).length ≤ direct_of ns p - i)
+      course_length = (facts.3, facts.4)
+
       pub course_fits : Course ns gs count j s p i → s + (region_at gs j).length ≤ length (rows ns)
       course_fits (on a) = omega (arith, a.left, skip_length ns w p g.length i (omega (arith, facts.4)))
       course_fits (off h q e) = omega (arith, q, skip_length ns w p g.length i (omega (arith, facts.4)))

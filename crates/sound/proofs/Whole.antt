@@ -51,13 +51,13 @@ module _ (m : Model) (size : length m.nodes ≡ 256) where
       go true e = sym (h e)
       go false e = stop _ _ e ∙ sym split
 
-  twins_bad : has_twins (drop 1 m.nodes) ≡ true → false ≡ sound m
+  pub twins_bad : has_twins (drop 1 m.nodes) ≡ true → false ≡ sound m
   twins_bad e = not_sound (λ t. absurd (differ e (no_twins m.nodes (well t))))
 
-  places_bad : places_ok m.nodes ≡ false → false ≡ sound m
+  pub places_bad : places_ok m.nodes ≡ false → false ≡ sound m
   places_bad e = not_sound (λ t. absurd (differ (nodes_places m.nodes t) e))
 
-  totals_bad : totals_ok m.nodes ≡ false → false ≡ sound m
+  pub totals_bad : totals_ok m.nodes ≡ false → false ≡ sound m
   totals_bad e = not_sound (λ t. split ∙ sym (keep _ _ _ t (stop _ _ (sym (totals_settled m.nodes (well t)) ∙ e))))
 
   pub formed : has_twins (drop 1 m.nodes) ≡ false → places_ok m.nodes ≡ true → totals_ok m.nodes ≡ true → (b : ℕ) → ((k : ℕ) → (node_at m.nodes k).total < b) → nodes_ok m.nodes 0 m.nodes ≡ true
@@ -74,17 +74,17 @@ module _ (m : Model) (size : length m.nodes ≡ 256) where
     rest : (b : Bool) → b ≡ last → b ≡ sound m
     rest b e = keep _ _ _ t (keep _ _ _ (sym (totals_settled m.nodes (well t)) ∙ totals) e) ∙ sym split
 
-    regions_bad : regions_ok m.nodes m.regions m.region_count ≡ false → false ≡ sound m
+    pub regions_bad : regions_ok m.nodes m.regions m.region_count ≡ false → false ≡ sound m
     regions_bad e = rest false (stop _ _ e)
 
-    count_bad : 512 ≤ m.region_count → false ≡ sound m
+    pub count_bad : 512 ≤ m.region_count → false ≡ sound m
     count_bad l = regions_bad (regions_many m.nodes (well t) m.regions m.region_count l)
 
     module _ (regions : regions_ok m.nodes m.regions m.region_count ≡ true) where
-      published_bad : m.published ≢ (node_at m.nodes 0).total → false ≡ sound m
+      pub published_bad : m.published ≢ (node_at m.nodes 0).total → false ≡ sound m
       published_bad d = rest false (keep _ _ _ regions (stop _ _ (ne_eqb m.published (row_total m.nodes) (λ z. d (z ∙ sym all_rows)))))
 
-      limit_left : m.published ≡ (node_at m.nodes 0).total → leb m.published row_limit ≡ sound m
+      pub limit_left : m.published ≡ (node_at m.nodes 0).total → leb m.published row_limit ≡ sound m
       limit_left h =
           let e = h ∙ all_rows in
           rest (leb m.published row_limit) (keep _ _ _ regions (keep _ _ _ (eq-eqb m.published (row_total m.nodes) e) (ap (λ (n : ℕ). leb n row_limit) e)))

@@ -1,5 +1,5 @@
 -- The search for an entry: a hit, a miss and the end; and that what is found is an entry of the table.
-use Prim.Native.Nat.{ℕ, zero, suc, ◌+◌, ◌-◌, ◌*◌, ◌≤◌, ◌<◌}
+use Prim.Native.Nat.{ℕ, zero, suc, ◌+◌, ◌-◌, ◌*◌, ◌≤◌, ◌<◌, ◌%◌}
 use native.Mathlib.Nat.{add-zero}
 use native.Mathlib.Numerals.{add-one}
 use native.Mathlib.Omega.{arith}
@@ -10,11 +10,11 @@ use mathlib.Core.List.{List, []}
 use lib.Dec.{eqb}
 use lib.ListN.{length, get_or, take, drop, length-drop}
 use lib.Seq.{length-take-le}
-use borrow.Author.Tests.{eq-eqb, ne_eqb}
+use borrow.Author.Tests.{eq-eqb, ne_eqb, lt-ltb}
 use Rattle.std.proofs.Common.{Some, None}
 use Rattle.model.proofs.UnlessZero.{some_is, none_is, some_number, none_number}
 use Rattle.model.specs.Places.{unless_zero}
-use Rattle.model.specs.Table.{word, entries, first_entry, child_entry, entry_words, child_words}
+use Rattle.model.specs.Table.{word, entries, readable, first_entry, child_entry, entry_words, child_words}
 
 module _ (t : List ℕ) (p i n e : ℕ) (inside : e < n) where
   left : n - e ≡ suc (n - (e + 1))
@@ -75,6 +75,14 @@ words_some t p i e listed = by e (some_is (child_entry t p i) e listed)
     by : (e : ℕ) → (e ≡ child_entry t p i) × (e ≡ 0 → ⊥) → entry_words t (child_entry t p i) ≡ take 5 (drop (5 * e) t)
     by zero n = absurd (n.1 refl)
     by (suc e) n = rw (← n.0)
+
+pub readable_empty : (t : List ℕ) → length t ≡ 0 → readable t ≡ false
+unfolding readable
+readable_empty t z = rw z
+
+pub readable_some : (t : List ℕ) → (length t ≡ 0 → ⊥) → readable t ≡ eqb (length t % 5) 0
+unfolding readable
+readable_some t some = rw (lt-ltb 0 (length t) (omega arith))
 
 -- a child has five words or none
 pub words_whole : (t : List ℕ) (p i : ℕ) → (child_words t p i ≡ []) ⊎ (length (child_words t p i) ≡ 5)

@@ -1,15 +1,25 @@
 -- Sums over the elements of a list that pass a test.
-use Prim.Native.Nat.{ℕ, zero, suc, ◌+◌, ◌<◌}
+use Prim.Native.Nat.{ℕ, zero, suc, ◌+◌, ◌≤◌, ◌<◌}
+use native.Mathlib.Numerals.{add-one}
 use native.Mathlib.Omega.{arith}
 use mathlib.Core.Path.{◌≡◌, refl}
 use mathlib.Core.Bool.{Bool, true, false, cond}
 use mathlib.Core.List.{List, [], ◌∷◌}
-use lib.ListN.{length, get_or}
+use lib.ListN.{length, get_or, drop, drop_of_length-le}
+use lib.Seq.{drop-cons}
 use Rattle.std.specs.List.{filter, sum_by}
 use Rattle.std.proofs.lemmas.List.Sums.{sum_by-cons}
 use Rattle.totals.specs.Totals.{sum_if}
 
 module _ {A : Type 0} (q : A → Bool) (f : A → ℕ) where
+  pub sum_next : (xs : List A) (k : ℕ) (d : A) → k < length xs → sum_if q f (drop k xs) ≡ cond (q (get_or xs k d)) (f (get_or xs k d)) 0 + sum_if q f (drop (k + 1) xs)
+  unfolding sum_if
+  sum_next xs k d h = rw (add-one, drop-cons xs k d h)
+
+  pub sum_end : (xs : List A) (k : ℕ) → length xs ≤ k → sum_if q f (drop k xs) ≡ 0
+  unfolding sum_if
+  sum_end xs k h = rw (drop_of_length-le xs h)
+
   -- the library's words for it
   pub sum_if-filter : (xs : List A) → sum_by f (filter q xs) ≡ sum_if q f xs
   unfolding sum_if
